@@ -1,0 +1,156 @@
+-- The ended mark and the refusals: number 10 sets the mark; every other refusal has 0 rounds and changes nothing; every other answer keeps the mark.
+use Prim.Native.Nat.{ℕ, zero, suc, _+_, _<_}
+use mathlib.Core.Path.{_≡_, refl, _∙_}
+use mathlib.Core.Logic.{_⊎_, inl, inr}
+use mathlib.Core.Bool.{Bool, true}
+use mathlib.Core.List.{List, [], _∷_}
+use mathlib.Core.Option.{Option, none, some}
+use native.Mathlib.Omega.{arith}
+use lib.Dec.{eqb}
+use Rattle.rules.specs.Basics.{kindOf}
+use Rattle.rules.specs.State.{State, side, roundsLeft}
+use Rattle.rules.specs.ChoiceRound.{Candidate, anAggregate, aBlock, anEvent, aTimer, anAction, none-left, RoundOutcome, next, taken, nothing, passed, act, candidate, closed, fits, roundSums, round, noTimer, noAction, clearTimer, clearAction}
+use Rattle.rules.specs.Choice.{Answer, done, event, nothing-left, yes-step, no-step, refused, Called, rounds, settle, choose}
+use Rattle.rules.specs.Arguments.{Call, push, set-action, clear-action, set-timer, clear-timer, pick-next, sim-network-stack, actionKindOf}
+use Rattle.rules.specs.Effects.{afterStep}
+use Rattle.rules.specs.Refusals.{firstOf, table, refusal}
+use Rattle.rules.specs.Calls.{work, unlessRefused, call}
+use Rattle.laws.specs.Counts.{by-if}
+use Rattle.laws.specs.Lists.{Steady, act-steady, after-push-adds, after-set-adds, set-timer-adds, after-step-adds, with-steady}
+use Rattle.laws.specs.Falls.{stateAfter}
+
+-- ---- the round
+
+abbrev RoundMarks : State → RoundOutcome → Type 0
+RoundMarks s (next t) = t .ended ≡ s .ended
+RoundMarks s (taken e t) = t .ended ≡ s .ended
+RoundMarks s (nothing t) = t .ended ≡ s .ended
+RoundMarks s (passed t) = t .ended ≡ true
+
+-- what is made of a candidate is never a sum that passes the limit
+abbrev Within : RoundOutcome → Type 0
+Within (next t) = Unit
+Within (taken e t) = Unit
+Within (nothing t) = Unit
+Within (passed t) = ⊥
+
+act-within : (s : State) (now : ℕ) (c : Candidate) → Within (act s now c)
+act-within s now (anAggregate a) = tt
+act-within s now (aBlock k) = by-if Within (eqb (side s (k .side) .fixed .reportingDelay) 0) tt tt
+act-within s now (anEvent h) = tt
+act-within s now (aTimer z t) = tt
+act-within s now (anAction z a) = tt
+act-within s now none-left = tt
+
+closed-marks : (s : State) (o : RoundOutcome) → Within o → Steady s (stateAfter o) → RoundMarks s (closed o)
+closed-marks s (next t) n h = h .ended
+closed-marks s (taken e t) n h = h .ended
+closed-marks s (nothing t) n h = h .ended
+closed-marks s (passed t) n h = absurd n
+
+round-marks : (s : State) (now : ℕ) → RoundMarks s (round s now)
+unfolding round
+round-marks s now =
+    let c : Candidate = candidate s now in
+    by-if (RoundMarks s) (fits (roundSums s now c)) (closed-marks s (act s now c) (act-within s now c) (act-steady s now c)) refl
+
+-- ---- the choice: 10 is its only refusal, and sets the mark
+
+abbrev pub ChoiceMarks : State → Answer → State → Type 0
+ChoiceMarks s (refused n k) t = (n ≡ 10) × (t .ended ≡ true)
+ChoiceMarks s (event e k) t = t .ended ≡ s .ended
+ChoiceMarks s (nothing-left k) t = t .ended ≡ s .ended
+ChoiceMarks s done t = t .ended ≡ s .ended
+ChoiceMarks s yes-step t = t .ended ≡ s .ended
+ChoiceMarks s no-step t = t .ended ≡ s .ended
+
+onward : (s t : State) (a : Answer) (u : State) → t .ended ≡ s .ended → ChoiceMarks t a u → ChoiceMarks s a u
+onward s t (refused n k) u h m = m
+onward s t (event e k) u h m = m ∙ h
+onward s t (nothing-left k) u h m = m ∙ h
+onward s t done u h m = m ∙ h
+onward s t yes-step u h m = m ∙ h
+onward s t no-step u h m = m ∙ h
+
+rounds-mark : (f now k : ℕ) (s : State) → ChoiceMarks s (rounds f now k s .answer) (rounds f now k s .state)
+unfolding rounds
+rounds-mark zero now k s = refl
+rounds-mark (suc f) now k s = go (round s now) (round-marks s now) (rounds-mark f now (k + 1))
+  where
+    go :
+        (o : RoundOutcome) → RoundMarks s o → ((t : State) → ChoiceMarks t (rounds f now (k + 1) t .answer) (rounds f now (k + 1) t .state))
+        → ChoiceMarks s (settle k (λ (t : State). rounds f now (k + 1) t) o .answer) (settle k (λ (t : State). rounds f now (k + 1) t) o .state)
+    go (next t) m ih = onward s t (rounds f now (k + 1) t .answer) (rounds f now (k + 1) t .state) m (ih t)
+    go (taken e t) m ih = m
+    go (nothing t) m ih = m
+    go (passed t) m ih = (refl, m)
+
+pub choose-marks : (s : State) (now : ℕ) → ChoiceMarks s (choose s now .answer) (choose s now .state)
+unfolding choose
+choose-marks s now = rounds-mark (suc (roundsLeft s)) now 0 s
+
+-- ---- any call
+
+abbrev pub Marks : State → Answer → State → Type 0
+Marks s (refused n k) t = ((n ≡ 10) × (t .ended ≡ true)) ⊎ ((n < 10) × (k ≡ 0) × (t ≡ s))
+Marks s (event e k) t = t .ended ≡ s .ended
+Marks s (nothing-left k) t = t .ended ≡ s .ended
+Marks s done t = t .ended ≡ s .ended
+Marks s yes-step t = t .ended ≡ s .ended
+Marks s no-step t = t .ended ≡ s .ended
+
+choice-marks : (s : State) (a : Answer) (t : State) → ChoiceMarks s a t → Marks s a t
+choice-marks s (refused n k) t h = inl h
+choice-marks s (event e k) t h = h
+choice-marks s (nothing-left k) t h = h
+choice-marks s done t h = h
+choice-marks s yes-step t h = h
+choice-marks s no-step t h = h
+
+work-marks : (s : State) (c : Call) → Marks s (work s c .answer) (work s c .state)
+unfolding work clearAction clearTimer
+work-marks s (push r) = after-push-adds s r (kindOf (r .kind)) .steady .ended
+work-marks s (set-action z r) = after-set-adds s z r (actionKindOf (r .kind)) .steady .ended
+work-marks s (clear-action z) = with-steady s (z .side) (noAction (side s (z .side)) (z .machine)) .ended
+work-marks s (set-timer z t) = set-timer-adds s z t .steady .ended
+work-marks s (clear-timer z) = with-steady s (z .side) (noTimer (side s (z .side)) (z .machine)) .ended
+work-marks s (pick-next now) = choice-marks s (choose s now .answer) (choose s now .state) (choose-marks s now)
+work-marks s (sim-network-stack now r) =
+    let t : State = afterStep s now r (kindOf (r .kind)) .state in
+    let e : t .ended ≡ s .ended = after-step-adds s now r (kindOf (r .kind)) .steady .ended in
+    by-if
+    (λ (d : Called). Marks s (d .answer) (d .state))
+    (fits (afterStep s now r (kindOf (r .kind)) .sums))
+    (by-if (λ (a : Answer). Marks s a t) (afterStep s now r (kindOf (r .kind)) .answer) e e)
+    (inl (refl, refl))
+
+-- the table's numbers are below 10
+abbrev Below : List (ℕ × Bool) → Type 0
+Below [] = Unit
+Below ((n, b) ∷ l) = (n < 10) × Below l
+
+table-below : (s : State) (c : Call) → Below (table s c)
+unfolding table
+table-below s (push r) = (omega arith, (omega arith, (omega arith, (omega arith, (omega arith, tt)))))
+table-below s (set-action z r) = (omega arith, (omega arith, (omega arith, (omega arith, (omega arith, tt)))))
+table-below s (clear-action z) = (omega arith, (omega arith, tt))
+table-below s (set-timer z t) = (omega arith, (omega arith, (omega arith, (omega arith, tt))))
+table-below s (clear-timer z) = (omega arith, (omega arith, tt))
+table-below s (pick-next now) = (omega arith, (omega arith, tt))
+table-below s (sim-network-stack now r) = (omega arith, (omega arith, (omega arith, (omega arith, (omega arith, (omega arith, tt))))))
+
+abbrev BelowTen : Option ℕ → Type 0
+BelowTen none = Unit
+BelowTen (some n) = n < 10
+
+first-below : (l : List (ℕ × Bool)) → Below l → BelowTen (firstOf l)
+first-below [] h = tt
+first-below ((n, b) ∷ l) h = by-if BelowTen b (h .0) (first-below l (h .1))
+
+pub call-marks : (s : State) (c : Call) → Marks s (call s c .answer) (call s c .state)
+unfolding call refusal
+call-marks s c = go (firstOf (table s c)) (first-below (table s c) (table-below s c))
+  where
+    go : (o : Option ℕ) → BelowTen o → Marks s (unlessRefused o s (work s c) .answer) (unlessRefused o s (work s c) .state)
+    go none h = work-marks s c
+    go (some n) h = inr (h, refl, refl)

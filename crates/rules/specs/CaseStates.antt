@@ -1,0 +1,106 @@
+-- What the proved cases are written with: states to begin from, events, and what a call leaves. It holds no rule.
+use Prim.Native.Nat.{ℕ}
+use mathlib.Core.Bool.{Bool, false}
+use mathlib.Core.List.{List, [], _∷_}
+use mathlib.Core.Option.{Option, none, some}
+use lib.ListN.{set}
+use Rattle.rules.specs.State.{Action, Aggregate, Event, Fixed, State, reserved, roundsLeft, side, used, withActions, withBlock, withRounds, withSide, withSum, withTimers}
+use Rattle.rules.specs.Choice.{Answer, Called, choose, event, nothing-left, refused, rounds}
+use Rattle.rules.specs.Arguments.{Call, EventIn, sim-network-stack}
+use Rattle.rules.specs.Basics.{Kind, Side, client, server}
+use Rattle.rules.specs.Aggregates.{addAggregate, addAggregates, aggregatesOf, onDelayed, onExpire, onReplace}
+use Rattle.rules.specs.ChoiceRound.{alwaysSums, candidate, clearAction, clearBlock, clearTimer, doAction, fits, liftEvent, round, roundSums, takeAggregate, takeEvent}
+use Rattle.rules.specs.Calls.{call, work}
+use Rattle.rules.specs.ChoiceDelays.{delays, offered}
+use Rattle.rules.specs.ChoiceHeads.{earliestBlocked, earliestOfSide, firstBy, headAs, passingHead, peekQueue, queueHead, sideHead, waitingHead}
+use Rattle.rules.specs.Opening.{openRefusal, opened, outside}
+use Rattle.rules.specs.Queueing.{pushEvent, putEvent}
+use Rattle.rules.specs.Refusals.{refusal, table}
+use Rattle.rules.specs.NetworkStep.{replaceBy, stamp, step, stepPadding, stepTunnel}
+use Rattle.rules.specs.Effects.{setTimer}
+
+-- what computes in a case: every rule
+unfoldable pub rules : Unit {0}
+unfolding choose rounds round candidate delays offered peekQueue queueHead sideHead headAs firstBy waitingHead passingHead earliestOfSide earliestBlocked alwaysSums roundSums fits roundsLeft used reserved putEvent pushEvent addAggregate addAggregates aggregatesOf onExpire onReplace onDelayed takeAggregate clearBlock liftEvent takeEvent clearTimer clearAction stamp doAction setTimer opened step stepTunnel stepPadding replaceBy call work table refusal openRefusal outside
+rules = tt
+
+-- ---- states
+
+-- delays 0, and two machines a side
+abbrev pub twoMachines : Fixed
+twoMachines = record { actionDelay = 0; reportingDelay = 0; machines = 2 }
+
+-- opened with a network delay, a network rate and a window, over 656 words: 100 records
+abbrev pub openWith : ℕ → Option ℕ → ℕ → State
+openWith d rate window =
+    opened (record { settings = record { networkDelay = d; networkRate = rate; queueRate = none; window = window }; client = twoMachines; server = twoMachines }) 656
+
+-- opened with a network delay alone
+abbrev pub openDelay : ℕ → State
+openDelay d = openWith d none 0
+
+-- opened with every delay 0
+abbrev pub fresh : State
+fresh = openDelay 0
+
+-- both sums
+abbrev pub withSums : State → ℕ → ℕ → State
+withSums s c r = withSide (withSide s client (withSum (s .client) c)) server (withSum (s .server) r)
+
+-- a side blocked to an end, with its bypassable flag
+abbrev pub blocked : State → Side → ℕ → Bool → State
+blocked s z end flag = withSide s z (withBlock (side s z) (some end) flag)
+
+-- a timer, and an action, in a slot
+abbrev pub withTimer : State → Side → ℕ → ℕ → State
+withTimer s z m t = withSide s z (withTimers (side s z) (set (side s z .timers) m (some t)))
+
+abbrev pub withAction : State → Side → ℕ → Action → State
+withAction s z m a = withSide s z (withActions (side s z) (set (side s z .actions) m (some a)))
+
+-- an event, and an aggregate, queued in the first free record
+abbrev pub queuedIn : State → Event → State
+queuedIn s e = pushEvent s e
+
+abbrev pub pendingIn : State → Aggregate → State
+pendingIn s a = addAggregate s a
+
+-- ---- events and aggregates
+
+-- no delay, no flag
+abbrev pub plain : Kind → ℕ → Side → ℕ → Event
+plain k t z m = record { kind = k; moment = t; delay = 0; side = z; padding = false; bypass = false; replace = false; machine = m }
+
+abbrev pub aggregate : ℕ → ℕ → Side → Aggregate
+aggregate t n z = record { moment = t; length = n; side = z }
+
+-- handed in, no delay, no flag, machine 0
+abbrev pub handedIn : ℕ → ℕ → Side → EventIn
+handedIn k t z = record { kind = k; moment = t; delay = 0; side = z; padding = false; bypass = false; replace = false; machine = 0 }
+
+-- a network step of a client `TunnelSent`, which stamps its time
+abbrev pub stampAt : ℕ → Call
+stampAt t = sim-network-stack t (handedIn 0 t client)
+
+-- ---- what calls leave
+
+-- an event after k rounds, and nothing left after k rounds; the round total was 0
+abbrev pub anEventIn : Event → ℕ → State → Called
+anEventIn e k s = record { answer = event e k; state = withRounds s k }
+
+abbrev pub nothingIn : ℕ → State → Called
+nothingIn k s = record { answer = nothing-left k; state = withRounds s k }
+
+-- refused with the number, and the state as it was
+abbrev pub refusedIn : ℕ → State → Called
+refusedIn n s = record { answer = refused n 0; state = s }
+
+-- the state after a list of calls
+abbrev pub afterCalls : State → List Call → State
+afterCalls s [] = s
+afterCalls s (c ∷ l) = afterCalls (call s c .state) l
+
+-- the answers of a list of calls
+abbrev pub answersOf : State → List Call → List Answer
+answersOf s [] = []
+answersOf s (c ∷ l) = call s c .answer ∷ answersOf (call s c .state) l

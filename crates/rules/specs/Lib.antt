@@ -1,0 +1,17 @@
+pub mod Basics
+pub mod Limits
+pub mod State
+pub mod Queueing
+pub mod Aggregates
+pub mod ChoiceHeads
+pub mod ChoiceDelays
+pub mod ChoiceRound
+pub mod Choice
+pub mod NetworkStep
+pub mod Arguments
+pub mod Effects
+pub mod Refusals
+pub mod Calls
+pub mod Opening
+pub mod CaseStates
+pub mod Cases

@@ -1,0 +1,33 @@
+-- Document 01, "The state": the chain that an event goes to, its place there, and the record that it takes.
+use mathlib.Core.Bool.{Bool}
+use mathlib.Core.List.{List, [], _∷_, tail}
+use lib.Dec.{eqb}
+use Rattle.rules.specs.State.{Chain, Event, Held, SideState, State, base, blocking, bypassable, freePlace, inRecord, internal, queue, side, withFree, withQueue, withQueues, withSide}
+use Rattle.rules.specs.Basics.{before, if_then_else_, isTunnelSent, rank}
+
+-- "`TunnelSent` goes to bypassable if its bypass flag is set, else to blocking; `NormalSent` to base; all else to internal."
+abbrev pub chainOf : Event → Chain
+chainOf e =
+    if isTunnelSent (e .kind) then if e .bypass then bypassable else blocking
+    else if eqb (rank (e .kind)) 1 then base else internal
+
+-- the order within a chain, "by moment, then rank": whether a newly arrived event goes before one that is there
+abbrev pub goesBefore : Event → Event → Bool
+goesBefore new old = before (new .moment) (rank (new .kind)) (old .moment) (rank (old .kind))
+
+-- "Event chains run by moment, then rank, then arrival"
+abbrev pub insert : Held Event → List (Held Event) → List (Held Event)
+insert e [] = e ∷ []
+insert e (x ∷ l) = if goesBefore (e .value) (x .value) then e ∷ x ∷ l else x ∷ insert e l
+
+-- a side with the event in the chain named
+abbrev pub pushSide : SideState → Chain → Held Event → SideState
+pushSide x c e = withQueues x (withQueue (x .queues) c (insert e (queue (x .queues) c)))
+
+-- an event that has its record goes into its chain
+unfoldable pub putEvent : State → Held Event → State
+putEvent s e = withSide s (e .value .side) (pushSide (side s (e .value .side)) (chainOf (e .value)) e)
+
+-- a new event takes the first free record: `push_sim`
+unfoldable pub pushEvent : State → Event → State
+pushEvent s e = putEvent (withFree s (tail (s .free))) (inRecord (freePlace (s .free)) e)
