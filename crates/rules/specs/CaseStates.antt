@@ -1,11 +1,10 @@
 -- What the proved cases are written with: states to begin from, events, and what a call leaves. It holds no rule.
 use Prim.Native.Nat.{ℕ}
 use mathlib.Core.Bool.{Bool, false}
-use mathlib.Core.List.{List, [], _∷_}
 use mathlib.Core.Option.{Option, none, some}
 use lib.ListN.{set}
 use Rattle.rules.specs.State.{Action, Aggregate, Event, Fixed, State, reserved, roundsLeft, side, used, withActions, withBlock, withRounds, withSide, withSum, withTimers}
-use Rattle.rules.specs.Choice.{Answer, Called, choose, event, nothing-left, refused, rounds}
+use Rattle.rules.specs.Choice.{Called, choose, event, nothing-left, refused, rounds}
 use Rattle.rules.specs.Arguments.{Call, EventIn, sim-network-stack}
 use Rattle.rules.specs.Basics.{Kind, Side, client, server}
 use Rattle.rules.specs.Aggregates.{addAggregate, addAggregates, aggregatesOf, onDelayed, onExpire, onReplace}
@@ -94,13 +93,3 @@ nothingIn k s = record { answer = nothing-left k; state = withRounds s k }
 -- refused with the number, and the state as it was
 abbrev pub refusedIn : ℕ → State → Called
 refusedIn n s = record { answer = refused n 0; state = s }
-
--- the state after a list of calls
-abbrev pub afterCalls : State → List Call → State
-afterCalls s [] = s
-afterCalls s (c ∷ l) = afterCalls (call s c .state) l
-
--- the answers of a list of calls
-abbrev pub answersOf : State → List Call → List Answer
-answersOf s [] = []
-answersOf s (c ∷ l) = call s c .answer ∷ answersOf (call s c .state) l

@@ -7,7 +7,8 @@ use lib.ListN.{length}
 use Rattle.rules.specs.State.{BlockOutgoing, withFree}
 use Rattle.rules.specs.Basics.{BlockingBegin, BlockingEnd, NormalSent, PaddingRecv, TimerEnd, TunnelSent, client, server}
 use Rattle.rules.specs.Arguments.{Call, pick-next}
-use Rattle.rules.specs.CaseStates.{afterCalls, aggregate, anEventIn, blocked, fresh, nothingIn, openDelay, openWith, pendingIn, plain, queuedIn, rules, stampAt, withAction, withSums, withTimer}
+use Rattle.rules.specs.CallLists.{afterAll}
+use Rattle.rules.specs.CaseStates.{aggregate, anEventIn, blocked, fresh, nothingIn, openDelay, openWith, pendingIn, plain, queuedIn, rules, stampAt, withAction, withSums, withTimer}
 use Rattle.rules.specs.Calls.{call}
 use Rattle.rules.specs.NetworkStep.{extraOver, packet, rateOf}
 use Rattle.rules.specs.Opening.{upFrom}
@@ -54,7 +55,7 @@ pub record Starred : Type 0 where
   -- Window 10, stamps at 100, 110, 111: counts 1, 2, 2.
   pub counts :
       map
-      (λ (l : List Call). length (afterCalls (openWith 0 none 10) l .client .stamps))
+      (λ (l : List Call). length (afterAll (openWith 0 none 10) l .client .stamps))
       ((stampAt 100 ∷ []) ∷ (stampAt 100 ∷ stampAt 110 ∷ []) ∷ (stampAt 100 ∷ stampAt 110 ∷ stampAt 111 ∷ []) ∷ [])
       ≡ 1 ∷ 2 ∷ 2 ∷ []
 

@@ -13,5 +13,6 @@ pub mod Effects
 pub mod Refusals
 pub mod Calls
 pub mod Opening
+pub mod CallLists
 pub mod CaseStates
 pub mod Cases
