@@ -1,8 +1,8 @@
 #!/usr/bin/env python3
-"""imports.py [--also DIR].. FILE..: writes the `use` lines of antt files anew, in the repository's folder.
-A file keeps the names that it uses and no others; a name that moved to another file of crates/ is imported from there; a name that no line
-imports yet is found in crates/ or among the names that other files (and those below --also) import from the libraries. A name that two
-places declare stays where the file has it from, or else comes from the file's own crate; if that leaves two, it is printed and left out."""
+"""imports.py [--add] [--also DIR].. FILE..: writes the `use` lines of antt files anew, in the repository's folder.
+A file keeps the names that it uses and no others; a name that moved to another file of crates/ is imported from there. With --add, a name
+that no line imports yet is found in crates/ or among the names that other files (and those below --also) import from the libraries. A name
+that two places declare stays where the file has it from, or else comes from the file's own crate; if that leaves two, it is printed and left out."""
 import glob, os, re, sys
 
 SYMBOL = r'[^\s(){};,."@`]+'
@@ -62,6 +62,8 @@ def sources(pattern_roots):
 
 def main():
     args, also = sys.argv[1:], []
+    add = '--add' in args
+    args = [a for a in args if a != '--add']
     while args and args[0] == '--also':
         also.append(args[1]); args = args[2:]
     home = {}
@@ -77,10 +79,10 @@ def main():
                     item = item.strip()
                     if ' as ' not in item: library.setdefault(item, set()).add(m.group(1))
     for path in args:
-        if os.path.basename(path) != 'Lib.antt': rewrite(path, home, library)
+        if os.path.basename(path) != 'Lib.antt': rewrite(path, home, library, add)
 
 
-def rewrite(path, home, library):
+def rewrite(path, home, library, add):
     crate = path.split(os.sep)[1]
     lines = open(path, encoding='utf-8').read().split('\n')
     had, body, first = {}, [], None
@@ -114,13 +116,13 @@ def rewrite(path, home, library):
             if len(pick) != 1: print(f'{path}: {plain}: {pick or "nowhere"}'); keep(mod, item); continue
             keep(module(pick[0], crate), item)
         else: keep(mod, item)
-    for name in sorted(n for n in home if stands(n, tokens) and n not in had and n not in local and n not in own):
+    for name in sorted(n for n in home if add and stands(n, tokens) and n not in had and n not in local and n not in own):
         places = [p for p in home[name] if p != path]
         mine = [p for p in places if p.split(os.sep)[1] == crate] or places
         if name in library and len(mine) != 1: continue
         if len(mine) == 1: keep(module(mine[0], crate), name)
         elif mine: print(f'{path}: {name}: {mine}')
-    for name in sorted(n for n in library if stands(n, tokens) and n not in had and n not in local and n not in own and n not in home):
+    for name in sorted(n for n in library if add and stands(n, tokens) and n not in had and n not in local and n not in own and n not in home):
         mods = library[name]
         if len(mods) == 1: keep(next(iter(mods)), name)
         else: print(f'{path}: {name}: {sorted(mods)}')

@@ -1,11 +1,12 @@
 -- What the proved cases are written with: states to begin from, events, and what a call leaves. It holds no rule.
 use Prim.Native.Nat.{ℕ}
-use mathlib.Core.Bool.{Bool, false}
+use mathlib.Core.Bool.{Bool, false, true}
 use mathlib.Core.Option.{Option, none, some}
+use mathlib.Core.List.{List, map}
 use lib.ListN.{set}
-use Rattle.rules.specs.State.{Action, Aggregate, Event, Fixed, State, reserved, roundsLeft, side, used, withActions, withBlock, withRounds, withSide, withSum, withTimers}
-use Rattle.rules.specs.Choice.{Called, choose, event, nothing-left, refused, rounds}
-use Rattle.rules.specs.Arguments.{Call, EventIn, sim-network-stack}
+use Rattle.rules.specs.State.{Action, Aggregate, Event, Fixed, State, reserved, roundsLeft, side, used, withActions, withBlock, withRounds, withSide, withSum, withTimers, Held}
+use Rattle.rules.specs.Choice.{Called, choose, event, nothing-left, refused, rounds, Answer}
+use Rattle.rules.specs.Arguments.{Call, EventIn, sim-network-stack, set-action}
 use Rattle.rules.specs.Basics.{Kind, Side, client, server}
 use Rattle.rules.specs.Aggregates.{addAggregate, addAggregates, aggregatesOf, onDelayed, onExpire, onReplace}
 use Rattle.rules.specs.ChoiceRound.{alwaysSums, candidate, clearAction, clearBlock, clearTimer, doAction, fits, liftEvent, round, roundSums, takeAggregate, takeEvent}
@@ -17,6 +18,7 @@ use Rattle.rules.specs.Queueing.{pushEvent, putEvent}
 use Rattle.rules.specs.Refusals.{refusal, table}
 use Rattle.rules.specs.NetworkStep.{replaceBy, stamp, step, stepPadding, stepTunnel}
 use Rattle.rules.specs.Effects.{setTimer}
+use Rattle.rules.specs.CallLists.{afterAll, answers}
 
 -- what computes in a case: every rule
 unfoldable pub rules : Unit {0}
@@ -77,6 +79,20 @@ aggregate t n z = record { moment = t; length = n; side = z }
 abbrev pub handedIn : ℕ → ℕ → Side → EventIn
 handedIn k t z = record { kind = k; moment = t; delay = 0; side = z; padding = false; bypass = false; replace = false; machine = 0 }
 
+-- handed in with its flags: padding, bypass, replace
+abbrev pub flagged : ℕ → ℕ → Side → Bool → Bool → Bool → EventIn
+flagged k t z p b r = record { kind = k; moment = t; delay = 0; side = z; padding = p; bypass = b; replace = r; machine = 0 }
+
+-- a `BlockOutgoing` for machine 0 of a side, not bypassable: at a moment, for a duration
+abbrev pub setBlock : Side → ℕ → ℕ → Call
+setBlock z t d =
+    set-action (record { side = z; machine = 0 }) (record { kind = 2; moment = t; duration = d; bypass = false; replace = false })
+
+-- the same, bypassable
+abbrev pub setBypassableBlock : Side → ℕ → ℕ → Call
+setBypassableBlock z t d =
+    set-action (record { side = z; machine = 0 }) (record { kind = 2; moment = t; duration = d; bypass = true; replace = false })
+
 -- a network step of a client `TunnelSent`, which stamps its time
 abbrev pub stampAt : ℕ → Call
 stampAt t = sim-network-stack t (handedIn 0 t client)
@@ -93,3 +109,21 @@ nothingIn k s = record { answer = nothing-left k; state = withRounds s k }
 -- refused with the number, and the state as it was
 abbrev pub refusedIn : ℕ → State → Called
 refusedIn n s = record { answer = refused n 0; state = s }
+
+-- what a list of calls answers, and after it the pending aggregates, the client's stamps and the client's bypassable flag
+pub record Ran : Type 0 where
+  pub answers : List Answer
+  pub pending : List Aggregate
+  pub stamps : List ℕ
+  pub flag : Bool
+
+abbrev pub values : {A : Type 0} → List (Held A) → List A
+values {A} l = map (λ (h : Held A). h .value) l
+
+abbrev pub ran : State → List Call → Ran
+ran s l =
+    let t : State = afterAll s l in
+    record { answers = answers s l; pending = values (t .aggregates); stamps = values (t .client .stamps); flag = t .client .blockBypassable }
+
+abbrev pub seen : List Answer → List Aggregate → List ℕ → Bool → Ran
+seen a p s f = record { answers = a; pending = p; stamps = s; flag = f }

@@ -16,3 +16,5 @@ pub mod Opening
 pub mod CallLists
 pub mod CaseStates
 pub mod Cases
+pub mod Edges
+pub mod TableCases

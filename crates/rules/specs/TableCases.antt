@@ -1,0 +1,167 @@
+-- The small inputs of document 01's table of refusals, and each limit at its edge and one past it. The Rust has no such numbers: the values are
+-- document 01's.
+use Prim.Native.Nat.{ℕ}
+use mathlib.Core.Option.{Option, none, some}
+use mathlib.Core.List.{[], _∷_, map}
+use mathlib.Core.Path.{_≡_, refl}
+use mathlib.Core.Bool.{false, true}
+use Rattle.rules.specs.Arguments.{ActionIn, Call, EventIn, pick-next, push, set-action, set-timer, sim-network-stack}
+use Rattle.rules.specs.Choice.{Answer, done, no-step, nothing-left, refused, yes-step}
+use Rattle.rules.specs.State.{BlockOutgoing, Fixed, SendPadding, State, withEnded, withRounds}
+use Rattle.rules.specs.Basics.{NormalSent, Side, client}
+use Rattle.rules.specs.Opening.{Opening, openRefusal, opened}
+use Rattle.rules.specs.ChoiceRound.{Slot}
+use Rattle.rules.specs.Calls.{call}
+use Rattle.rules.specs.CaseStates.{fresh, plain, queuedIn, refusedIn, rules, withAction}
+
+-- ---- what they begin from
+
+-- no machines and no rate; R is 1
+abbrev noMachines : Fixed
+noMachines = record { actionDelay = 0; reportingDelay = 0; machines = 0 }
+
+abbrev opensWith : Option ℕ → Option ℕ → ℕ → ℕ → Fixed → Opening
+opensWith nr qr d w f =
+    record { settings = record { networkDelay = d; networkRate = nr; queueRate = qr; window = w }; client = f; server = noMachines }
+
+abbrev plainOpening : Opening
+plainOpening = opensWith none none 0 0 noMachines
+
+-- opened over 260 words: one record, no machine
+abbrev tiny : State
+tiny = opened plainOpening 260
+
+abbrev tinyFull : State
+tinyFull = queuedIn tiny (plain NormalSent 5 client 0)
+
+abbrev slot : Side → ℕ → Slot
+slot z m = record { side = z; machine = m }
+
+-- an event of the client that is handed in with kind, moment, delay and machine
+abbrev eventFor : ℕ → ℕ → ℕ → ℕ → EventIn
+eventFor k t d m = record { kind = k; moment = t; delay = d; side = client; padding = false; bypass = false; replace = false; machine = m }
+
+abbrev actionFor : ℕ → ℕ → ℕ → ActionIn
+actionFor k t d = record { kind = k; moment = t; duration = d; bypass = false; replace = false }
+
+-- the answer of a call
+abbrev told : State → Call → Answer
+told s c = call s c .answer
+
+-- ---- the numbers, each with the table's small input
+
+pub record TableInputs : Type 0 where
+  -- 1: 0 words; and the lengths about R = 1 and R = 65,535
+  pub one : map (λ (words : ℕ). openRefusal words plainOpening) (0 ∷ 256 ∷ 259 ∷ 261 ∷ 262_400 ∷ []) ≡ some 1 ∷ some 1 ∷ some 1 ∷ some 1 ∷ some 1 ∷ []
+  pub lengths : map (λ (words : ℕ). openRefusal words plainOpening) (260 ∷ 264 ∷ 262_396 ∷ []) ≡ none ∷ none ∷ none ∷ []
+
+  -- 3: a choice after a 10
+  pub three : call (withEnded fresh true) (pick-next 100) ≡ refusedIn 3 (withEnded fresh true)
+
+  -- 4: rate 0. Rates 1 and 4,294,967,295 are within, 4,294,967,296 is not, also as the queue rate beside a network rate
+  pub four :
+      map (λ (rate : ℕ). openRefusal 260 (opensWith (some rate) none 0 0 noMachines)) (0 ∷ 1 ∷ 4_294_967_295 ∷ 4_294_967_296 ∷ [])
+      ≡ some 4 ∷ none ∷ none ∷ some 4 ∷ []
+  pub four-queue :
+      map (λ (rate : ℕ). openRefusal 260 (opensWith (some 1) (some rate) 0 0 noMachines)) (0 ∷ 1 ∷ 4_294_967_295 ∷ 4_294_967_296 ∷ [])
+      ≡ some 4 ∷ none ∷ none ∷ some 4 ∷ []
+  pub four-delay : map (λ (d : ℕ). openRefusal 260 (opensWith none none d 0 noMachines)) (1_000_000_000_000 ∷ 1_000_000_000_001 ∷ []) ≡ none ∷ some 4 ∷ []
+  pub four-window : map (λ (w : ℕ). openRefusal 260 (opensWith none none 0 w noMachines)) (1_000_000_000_000 ∷ 1_000_000_000_001 ∷ []) ≡ none ∷ some 4 ∷ []
+  pub four-action-delay :
+      map
+      (λ (d : ℕ). openRefusal 260 (opensWith none none 0 0 (record { actionDelay = d; reportingDelay = 0; machines = 0 })))
+      (1_000_000_000_000 ∷ 1_000_000_000_001 ∷ [])
+      ≡ none ∷ some 4 ∷ []
+  pub four-reporting-delay :
+      map
+      (λ (d : ℕ). openRefusal 260 (opensWith none none 0 0 (record { actionDelay = 0; reportingDelay = d; machines = 0 })))
+      (1_000_000_000_000 ∷ 1_000_000_000_001 ∷ [])
+      ≡ none ∷ some 4 ∷ []
+  pub four-machines :
+      map (λ (m : ℕ). openRefusal 260 (opensWith none none 0 0 (record { actionDelay = 0; reportingDelay = 0; machines = m }))) (16 ∷ 17 ∷ [])
+      ≡ none ∷ some 4 ∷ []
+
+  -- 5: machine 0 of 0; machine 1 of 2 is there, 2 is not. Kind 10 with machine 99 gives 6, `Cancel` for machine 0 of 0 gives 5
+  pub five : call tiny (set-timer (slot client 0) 5) ≡ refusedIn 5 tiny
+  pub five-machine : map (λ (m : ℕ). told fresh (set-timer (slot client m) 5)) (1 ∷ 2 ∷ []) ≡ done ∷ refused 5 0 ∷ []
+  pub five-kinds :
+      map (λ (k : ℕ). told fresh (push (eventFor k 5 0 2))) (0 ∷ 1 ∷ 2 ∷ 3 ∷ 4 ∷ 5 ∷ 6 ∷ 7 ∷ 8 ∷ 9 ∷ 10 ∷ [])
+      ≡ done ∷ done ∷ refused 5 0 ∷ done ∷ done ∷ done ∷ refused 5 0 ∷ done ∷ refused 5 0 ∷ refused 5 0 ∷ refused 6 0 ∷ []
+  pub five-cancel : told tiny (set-action (slot client 0) (actionFor 0 0 0)) ≡ refused 5 0
+
+  -- 6: `Cancel`; only `SendPadding` and `BlockOutgoing` can be set
+  pub six : map (λ (k : ℕ). told fresh (set-action (slot client 0) (actionFor k 5 0))) (0 ∷ 1 ∷ 2 ∷ 3 ∷ []) ≡ refused 6 0 ∷ done ∷ done ∷ refused 6 0 ∷ []
+
+  -- 7: moment 2^62. 2^62 − 1 is taken
+  pub seven :
+      map (λ (t : ℕ). told fresh (push (eventFor 1 t 0 0))) (4_611_686_018_427_387_903 ∷ 4_611_686_018_427_387_904 ∷ []) ≡ done ∷ refused 7 0 ∷ []
+  pub seven-delay : map (λ (d : ℕ). told fresh (push (eventFor 1 5 d 0))) (2_000_000_000_000 ∷ 2_000_000_000_001 ∷ []) ≡ done ∷ refused 7 0 ∷ []
+  pub seven-timer :
+      map (λ (t : ℕ). told fresh (set-timer (slot client 0) t)) (4_611_686_018_427_387_903 ∷ 4_611_686_018_427_387_904 ∷ []) ≡ done ∷ refused 7 0 ∷ []
+  pub seven-action :
+      map (λ (t : ℕ). told fresh (set-action (slot client 0) (actionFor 1 t 0))) (4_611_686_018_427_387_903 ∷ 4_611_686_018_427_387_904 ∷ [])
+      ≡ done ∷ refused 7 0 ∷ []
+  pub seven-duration :
+      map (λ (d : ℕ). told fresh (set-action (slot client 0) (actionFor 2 5 d))) (1_000_000_000_000 ∷ 1_000_000_000_001 ∷ []) ≡ done ∷ refused 7 0 ∷ []
+  pub seven-choice : map (λ (t : ℕ). told fresh (pick-next t)) (4_611_686_018_427_387_903 ∷ 4_611_686_018_427_387_904 ∷ []) ≡ nothing-left 1 ∷ refused 7 0 ∷ []
+  pub seven-step :
+      map (λ (t : ℕ). told fresh (sim-network-stack t (eventFor 4 5 0 0))) (4_611_686_018_427_387_903 ∷ 4_611_686_018_427_387_904 ∷ []) ≡ no-step ∷ refused 7 0 ∷ []
+
+  -- 8: moment 5, delay 6. Delay 5 is not above it, and such an event may be pushed
+  pub eight : map (λ (d : ℕ). told fresh (sim-network-stack 5 (eventFor 0 5 d 0))) (5 ∷ 6 ∷ []) ≡ yes-step ∷ refused 8 0 ∷ []
+  pub eight-pushed : told fresh (push (eventFor 0 5 6 0)) ≡ done
+
+  -- 9: R = 1, second push
+  pub nine : (call tiny (push (eventFor 1 5 0 0)) ≡ record { answer = done; state = tinyFull }) × (call tinyFull (push (eventFor 1 5 0 0)) ≡ refusedIn 9 tinyFull)
+
+  -- 10: block action at 2^62 − 1, duration 1: no round is finished, and the state is marked ended
+  pub ten :
+      call (withAction fresh client 0 (record { kind = BlockOutgoing; moment = 4_611_686_018_427_387_903; duration = 1; bypass = false; replace = false })) (pick-next 100)
+      ≡ record {
+        answer = refused 10 0;
+        state = withEnded (withAction fresh client 0 (record { kind = BlockOutgoing; moment = 4_611_686_018_427_387_903; duration = 1; bypass = false; replace = false })) true;
+      }
+  -- and the round total at 2^62 − 1, even with nothing left
+  pub ten-total :
+      (told (withRounds fresh 4_611_686_018_427_387_902) (pick-next 100) ≡ nothing-left 1)
+      × (told (withRounds fresh 4_611_686_018_427_387_903) (pick-next 100) ≡ refused 10 0)
+
+  -- what is handed in and ignored is kept as 0: the machine of a kind without one, the duration of `SendPadding`
+  pub ignored :
+      (call fresh (push (eventFor 1 5 0 99)) ≡ record { answer = done; state = queuedIn fresh (plain NormalSent 5 client 0) })
+      × (call fresh (set-action (slot client 0) (actionFor 1 5 1_000_000_000_001))
+      ≡ record { answer = done; state = withAction fresh client 0 (record { kind = SendPadding; moment = 5; duration = 0; bypass = false; replace = false }) })
+
+-- each holds by computation
+pub table-inputs : TableInputs
+unfolding rules
+table-inputs = record {
+  one = refl;
+  lengths = refl;
+  three = refl;
+  four = refl;
+  four-queue = refl;
+  four-delay = refl;
+  four-window = refl;
+  four-action-delay = refl;
+  four-reporting-delay = refl;
+  four-machines = refl;
+  five = refl;
+  five-machine = refl;
+  five-kinds = refl;
+  five-cancel = refl;
+  six = refl;
+  seven = refl;
+  seven-delay = refl;
+  seven-timer = refl;
+  seven-action = refl;
+  seven-duration = refl;
+  seven-choice = refl;
+  seven-step = refl;
+  eight = refl;
+  eight-pushed = refl;
+  nine = (refl, refl);
+  ten = refl;
+  ten-total = (refl, refl);
+  ignored = (refl, refl);
+}
