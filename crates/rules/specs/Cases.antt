@@ -16,52 +16,42 @@ use Rattle.rules.specs.Opening.{upFrom}
 pub record Starred : Type 0 where
   -- Empty: nothing left, 1 round.
   pub empty : call fresh (pick-next 100) ≡ nothingIn 1 fresh
-
   -- Aggregates at 50 and 60 only: nothing left, 3 rounds, sums raised.
   pub aggregates :
       call (pendingIn (pendingIn fresh (aggregate 50 7 client)) (aggregate 60 8 server)) (pick-next 100)
       ≡ nothingIn 3 (withFree (withSums fresh 7 8) (2 ∷ 1 ∷ upFrom 3 98))
-
   -- Both blocks end at 90, no events: server `BlockingEnd` at 100, 1 round.
   pub both-blocks :
       call (blocked (blocked fresh client 90 false) server 90 false) (pick-next 100)
       ≡ anEventIn (plain BlockingEnd 100 server 0) 1 (blocked fresh client 90 false)
-
   -- Timers at 100, server machine 0 and client machine 1: the client's, 2 rounds.
   pub timers :
       call (withTimer (withTimer fresh server 0 100) client 1 100) (pick-next 100)
       ≡ anEventIn (plain TimerEnd 100 client 1) 2 (withTimer fresh server 0 100)
-
   -- Timer at 99 only: nothing left, timer kept.
   pub past-timer : call (withTimer fresh client 0 99) (pick-next 100) ≡ nothingIn 1 (withTimer fresh client 0 99)
-
   -- Client block action at 100, duration 0, no replace: `BlockingBegin` at 100, no block, 2 rounds.
   pub no-block :
       call (withAction fresh client 0 (record { kind = BlockOutgoing; moment = 100; duration = 0; bypass = false; replace = false })) (pick-next 100)
       ≡ anEventIn (plain BlockingBegin 100 client 0) 2 fresh
-
   -- Client blocked to 150, not bypassable, network delay 20, one client `TunnelSent` at 100: `BlockingEnd` at 150; aggregates of 50 at 180
   -- (client) and 160 (server).
   pub held-packet :
       call (queuedIn (blocked (openDelay 20) client 150 false) (plain TunnelSent 100 client 0)) (pick-next 100)
       ≡ anEventIn (plain BlockingEnd 150 client 0) 1
       (pendingIn (pendingIn (queuedIn (openDelay 20) (plain TunnelSent 100 client 0)) (aggregate 180 50 client)) (aggregate 160 50 server))
-
   -- The same with bypassable block and bypass flag: the packet at 100.
   pub passing-packet :
       call (queuedIn (blocked (openDelay 20) client 150 true) (packet TunnelSent 100 0 client false true false)) (pick-next 100)
       ≡ anEventIn (packet TunnelSent 100 0 client false true false) 1 (blocked (openDelay 20) client 150 true)
-
   -- Window 10, stamps at 100, 110, 111: counts 1, 2, 2.
   pub counts :
       map
       (λ (l : List Call). length (afterAll (openWith 0 none 10) l .client .stamps))
       ((stampAt 100 ∷ []) ∷ (stampAt 100 ∷ stampAt 110 ∷ []) ∷ (stampAt 100 ∷ stampAt 110 ∷ stampAt 111 ∷ []) ∷ [])
       ≡ 1 ∷ 2 ∷ 2 ∷ []
-
   -- Window 10^9, rate 3, count 5: extra 666,666,666.
   pub extra : extraOver 1_000_000_000 5 (rateOf (some 3) none) ≡ 666_666_666
-
   -- Client base at 100, sum 5, client `PaddingRecv` at 105: base, moment 105.
   pub base-first :
       call (queuedIn (queuedIn (withSums fresh 5 0) (plain PaddingRecv 105 client 0)) (plain NormalSent 100 client 0)) (pick-next 100)

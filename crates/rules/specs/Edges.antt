@@ -18,13 +18,11 @@ pub record Edges : Type 0 where
       ran (openWith 0 none 1_000_000_000)
       (setBlock client 100 2_000_000 ∷ pick-next 100 ∷ push (handedIn 0 100 client) ∷ push (handedIn 0 150 client) ∷ push (handedIn 0 1_000_100 client) ∷ pick-next 100 ∷ [])
       ≡ seen (done ∷ event (plain BlockingBegin 100 client 0) 2 ∷ done ∷ done ∷ done ∷ event (plain BlockingEnd 2_000_100 client 0) 1 ∷ []) (aggregate 2_000_100 1_000_000 client ∷ aggregate 2_000_100 1_000_000 server ∷ []) [] false
-
   -- client: three packets wait, the third 1 ns past: not the tail
   pub buffer-past :
       ran (openWith 0 none 1_000_000_000)
       (setBlock client 100 2_000_000 ∷ pick-next 100 ∷ push (handedIn 0 100 client) ∷ push (handedIn 0 150 client) ∷ push (handedIn 0 1_000_101 client) ∷ pick-next 100 ∷ [])
       ≡ seen (done ∷ event (plain BlockingBegin 100 client 0) 2 ∷ done ∷ done ∷ done ∷ event (plain BlockingEnd 2_000_100 client 0) 1 ∷ []) (aggregate 2_000_100 1_999_950 client ∷ aggregate 2_000_100 1_999_950 server ∷ []) [] false
-
   -- ---- three packets for the tail scan
 
   -- two wait: the head is the tail, no scan
@@ -32,13 +30,11 @@ pub record Edges : Type 0 where
       ran (openWith 0 none 1_000_000_000)
       (setBlock client 100 1000 ∷ pick-next 100 ∷ push (handedIn 0 100 client) ∷ push (handedIn 0 160 client) ∷ pick-next 100 ∷ [])
       ≡ seen (done ∷ event (plain BlockingBegin 100 client 0) 2 ∷ done ∷ done ∷ event (plain BlockingEnd 1100 client 0) 1 ∷ []) (aggregate 1100 1000 client ∷ aggregate 1100 1000 server ∷ []) [] false
-
   -- three wait: the last is the tail
   pub three-wait :
       ran (openWith 0 none 1_000_000_000)
       (setBlock client 100 1000 ∷ pick-next 100 ∷ push (handedIn 0 100 client) ∷ push (handedIn 0 130 client) ∷ push (handedIn 0 160 client) ∷ pick-next 100 ∷ [])
       ≡ seen (done ∷ event (plain BlockingBegin 100 client 0) 2 ∷ done ∷ done ∷ done ∷ event (plain BlockingEnd 1100 client 0) 1 ∷ []) (aggregate 1100 940 client ∷ aggregate 1100 940 server ∷ []) [] false
-
   -- ---- 1 ms base window at a block's end
 
   -- client: the next base event after the head, exactly 1 ms: no aggregate
@@ -46,13 +42,11 @@ pub record Edges : Type 0 where
       ran (openWith 0 none 1_000_000_000)
       (setBlock client 100 1000 ∷ pick-next 100 ∷ push (handedIn 0 100 client) ∷ push (handedIn 1 1_000_100 client) ∷ pick-next 100 ∷ [])
       ≡ seen (done ∷ event (plain BlockingBegin 100 client 0) 2 ∷ done ∷ done ∷ event (plain BlockingEnd 1100 client 0) 1 ∷ []) [] [] false
-
   -- client: the next base event after the head, 1 ns past: two aggregates
   pub expire-base-past :
       ran (openWith 0 none 1_000_000_000)
       (setBlock client 100 1000 ∷ pick-next 100 ∷ push (handedIn 0 100 client) ∷ push (handedIn 1 1_000_101 client) ∷ pick-next 100 ∷ [])
       ≡ seen (done ∷ event (plain BlockingBegin 100 client 0) 2 ∷ done ∷ done ∷ event (plain BlockingEnd 1100 client 0) 1 ∷ []) (aggregate 1100 1000 client ∷ aggregate 1100 1000 server ∷ []) [] false
-
   -- ---- 100 ms adjacent window and 1 ms base window of padding that replaces with bypass
 
   -- client: another waiting packet exactly 100 ms: no aggregate
@@ -60,25 +54,21 @@ pub record Edges : Type 0 where
       ran (openWith 0 none 1_000_000_000)
       (push (handedIn 0 100 client) ∷ push (handedIn 0 100_000_100 client) ∷ sim-network-stack 600 (flagged 2 600 client true true true) ∷ [])
       ≡ seen (done ∷ done ∷ no-step ∷ []) [] [] false
-
   -- client: another waiting packet 1 ns past: two aggregates of 500
   pub replace-adjacent-past :
       ran (openWith 0 none 1_000_000_000)
       (push (handedIn 0 100 client) ∷ push (handedIn 0 100_000_101 client) ∷ sim-network-stack 600 (flagged 2 600 client true true true) ∷ [])
       ≡ seen (done ∷ done ∷ no-step ∷ []) (aggregate 600 500 client ∷ aggregate 600 500 server ∷ []) [] false
-
   -- client: the base head exactly 1 ms: no aggregate
   pub replace-base-at :
       ran (openWith 0 none 1_000_000_000)
       (push (handedIn 0 100 client) ∷ push (handedIn 1 1_000_100 client) ∷ sim-network-stack 600 (flagged 2 600 client true true true) ∷ [])
       ≡ seen (done ∷ done ∷ no-step ∷ []) [] [] false
-
   -- client: the base head 1 ns past: two aggregates of 500
   pub replace-base-past :
       ran (openWith 0 none 1_000_000_000)
       (push (handedIn 0 100 client) ∷ push (handedIn 1 1_000_101 client) ∷ sim-network-stack 600 (flagged 2 600 client true true true) ∷ [])
       ≡ seen (done ∷ done ∷ no-step ∷ []) (aggregate 600 500 client ∷ aggregate 600 500 server ∷ []) [] false
-
   -- ---- 100 ms adjacent window and 1 ms base window of a packet above the limit
 
   -- client: a waiting packet exactly 100 ms: no aggregate
@@ -86,37 +76,31 @@ pub record Edges : Type 0 where
       ran (openWith 0 (some 1) 10)
       (sim-network-stack 100 (handedIn 0 100 client) ∷ push (handedIn 0 100_000_100 client) ∷ sim-network-stack 100 (handedIn 0 100 client) ∷ [])
       ≡ seen (yes-step ∷ done ∷ yes-step ∷ []) [] (100 ∷ 100 ∷ []) false
-
   -- client: a waiting packet 1 ns past: two aggregates of 10
   pub delayed-adjacent-past :
       ran (openWith 0 (some 1) 10)
       (sim-network-stack 100 (handedIn 0 100 client) ∷ push (handedIn 0 100_000_101 client) ∷ sim-network-stack 100 (handedIn 0 100 client) ∷ [])
       ≡ seen (yes-step ∷ done ∷ yes-step ∷ []) (aggregate 100 10 client ∷ aggregate 100 10 server ∷ []) (100 ∷ 100 ∷ []) false
-
   -- client: the base head exactly 1 ms: no aggregate
   pub delayed-base-at :
       ran (openWith 0 (some 1) 10)
       (sim-network-stack 100 (handedIn 0 100 client) ∷ push (handedIn 1 1_000_100 client) ∷ sim-network-stack 100 (handedIn 0 100 client) ∷ [])
       ≡ seen (yes-step ∷ done ∷ yes-step ∷ []) [] (100 ∷ 100 ∷ []) false
-
   -- client: the base head 1 ns past: two aggregates of 10
   pub delayed-base-past :
       ran (openWith 0 (some 1) 10)
       (sim-network-stack 100 (handedIn 0 100 client) ∷ push (handedIn 1 1_000_101 client) ∷ sim-network-stack 100 (handedIn 0 100 client) ∷ [])
       ≡ seen (yes-step ∷ done ∷ yes-step ∷ []) (aggregate 100 10 client ∷ aggregate 100 10 server ∷ []) (100 ∷ 100 ∷ []) false
-
   -- a packet above the limit uses the client's sum on both sides: only c has 2000, packet of s, base + 2000 exactly 1 ms after the packet
   pub client-sum-at :
       ran (openWith 1000 (some 1) 2000)
       (sim-network-stack 10_000 (flagged 0 10_000 server true false false) ∷ sim-network-stack 10_000 (flagged 0 10_000 server true false false) ∷ pick-next 11_500 ∷ sim-network-stack 11_500 (handedIn 0 11_500 server) ∷ push (handedIn 1 1_009_500 server) ∷ sim-network-stack 11_500 (handedIn 0 11_500 server) ∷ [])
       ≡ seen (yes-step ∷ yes-step ∷ event (packet TunnelRecv 11_500 0 client true false false) 2 ∷ yes-step ∷ done ∷ yes-step ∷ []) (aggregate 11_500 4000 client ∷ aggregate 11_500 4000 server ∷ aggregate 12_000 2000 server ∷ []) [] false
-
   -- a packet above the limit uses the client's sum on both sides: only c has 2000, packet of s, 1 ns past
   pub client-sum-past :
       ran (openWith 1000 (some 1) 2000)
       (sim-network-stack 10_000 (flagged 0 10_000 server true false false) ∷ sim-network-stack 10_000 (flagged 0 10_000 server true false false) ∷ pick-next 11_500 ∷ sim-network-stack 11_500 (handedIn 0 11_500 server) ∷ push (handedIn 1 1_009_501 server) ∷ sim-network-stack 11_500 (handedIn 0 11_500 server) ∷ [])
       ≡ seen (yes-step ∷ yes-step ∷ event (packet TunnelRecv 11_500 0 client true false false) 2 ∷ yes-step ∷ done ∷ yes-step ∷ []) (aggregate 11_500 4000 client ∷ aggregate 11_500 4000 server ∷ aggregate 11_500 6000 client ∷ aggregate 11_500 6000 server ∷ aggregate 12_000 2000 server ∷ []) [] false
-
   -- ---- 4D, 3D and D of an aggregate, D = 20
 
   -- client's block, length 60: client 80 - 60, server 60 - 60, not below 0
@@ -124,49 +108,41 @@ pub record Edges : Type 0 where
       ran (openWith 20 none 1_000_000_000)
       (setBlock client 100 100 ∷ pick-next 100 ∷ push (handedIn 0 140 client) ∷ pick-next 100 ∷ [])
       ≡ seen (done ∷ event (plain BlockingBegin 100 client 0) 2 ∷ done ∷ event (plain BlockingEnd 200 client 0) 1 ∷ []) (aggregate 200 60 server ∷ aggregate 220 60 client ∷ []) [] false
-
   -- client's block, length 61: client 80 - 61, server 60 - 61, not below 0
   pub client-3D-past :
       ran (openWith 20 none 1_000_000_000)
       (setBlock client 100 100 ∷ pick-next 100 ∷ push (handedIn 0 139 client) ∷ pick-next 100 ∷ [])
       ≡ seen (done ∷ event (plain BlockingBegin 100 client 0) 2 ∷ done ∷ event (plain BlockingEnd 200 client 0) 1 ∷ []) (aggregate 200 61 server ∷ aggregate 219 61 client ∷ []) [] false
-
   -- client's block, length 80: client 80 - 80, server 60 - 80, not below 0
   pub client-4D-at :
       ran (openWith 20 none 1_000_000_000)
       (setBlock client 100 100 ∷ pick-next 100 ∷ push (handedIn 0 120 client) ∷ pick-next 100 ∷ [])
       ≡ seen (done ∷ event (plain BlockingBegin 100 client 0) 2 ∷ done ∷ event (plain BlockingEnd 200 client 0) 1 ∷ []) (aggregate 200 80 client ∷ aggregate 200 80 server ∷ []) [] false
-
   -- client's block, length 81: client 80 - 81, server 60 - 81, not below 0
   pub client-4D-past :
       ran (openWith 20 none 1_000_000_000)
       (setBlock client 100 100 ∷ pick-next 100 ∷ push (handedIn 0 119 client) ∷ pick-next 100 ∷ [])
       ≡ seen (done ∷ event (plain BlockingBegin 100 client 0) 2 ∷ done ∷ event (plain BlockingEnd 200 client 0) 1 ∷ []) (aggregate 200 81 client ∷ aggregate 200 81 server ∷ []) [] false
-
   -- server's block, length 20: client 20 - 20, server 80 - 20, not below 0
   pub server-D-at :
       ran (openWith 20 none 1_000_000_000)
       (setBlock server 100 100 ∷ pick-next 100 ∷ push (handedIn 0 180 server) ∷ pick-next 100 ∷ [])
       ≡ seen (done ∷ event (plain BlockingBegin 100 server 0) 2 ∷ done ∷ event (plain BlockingEnd 200 server 0) 1 ∷ []) (aggregate 200 20 client ∷ aggregate 260 20 server ∷ []) [] false
-
   -- server's block, length 21: client 20 - 21, server 80 - 21, not below 0
   pub server-D-past :
       ran (openWith 20 none 1_000_000_000)
       (setBlock server 100 100 ∷ pick-next 100 ∷ push (handedIn 0 179 server) ∷ pick-next 100 ∷ [])
       ≡ seen (done ∷ event (plain BlockingBegin 100 server 0) 2 ∷ done ∷ event (plain BlockingEnd 200 server 0) 1 ∷ []) (aggregate 200 21 client ∷ aggregate 259 21 server ∷ []) [] false
-
   -- server's block, length 80: client 20 - 80, server 80 - 80, not below 0
   pub server-4D-at :
       ran (openWith 20 none 1_000_000_000)
       (setBlock server 100 100 ∷ pick-next 100 ∷ push (handedIn 0 120 server) ∷ pick-next 100 ∷ [])
       ≡ seen (done ∷ event (plain BlockingBegin 100 server 0) 2 ∷ done ∷ event (plain BlockingEnd 200 server 0) 1 ∷ []) (aggregate 200 80 client ∷ aggregate 200 80 server ∷ []) [] false
-
   -- server's block, length 81: client 20 - 81, server 80 - 81, not below 0
   pub server-4D-past :
       ran (openWith 20 none 1_000_000_000)
       (setBlock server 100 100 ∷ pick-next 100 ∷ push (handedIn 0 119 server) ∷ pick-next 100 ∷ [])
       ≡ seen (done ∷ event (plain BlockingBegin 100 server 0) 2 ∷ done ∷ event (plain BlockingEnd 200 server 0) 1 ∷ []) (aggregate 200 81 client ∷ aggregate 200 81 server ∷ []) [] false
-
   -- ---- the tail and the end
 
   -- three packets, the tail equal to the end: no aggregate
@@ -174,13 +150,11 @@ pub record Edges : Type 0 where
       ran (openWith 0 none 1_000_000_000)
       (setBlock client 100 50 ∷ pick-next 100 ∷ push (handedIn 0 110 client) ∷ push (handedIn 0 120 client) ∷ push (handedIn 0 150 client) ∷ pick-next 100 ∷ [])
       ≡ seen (done ∷ event (plain BlockingBegin 100 client 0) 2 ∷ done ∷ done ∷ done ∷ event (plain BlockingEnd 150 client 0) 1 ∷ []) [] [] false
-
   -- three packets, the tail 1 ns after the end: two aggregates of length 0
   pub tail-past-end :
       ran (openWith 20 none 1_000_000_000)
       (setBlock client 100 50 ∷ pick-next 100 ∷ push (handedIn 0 110 client) ∷ push (handedIn 0 120 client) ∷ push (handedIn 0 151 client) ∷ pick-next 100 ∷ [])
       ≡ seen (done ∷ event (plain BlockingBegin 100 client 0) 2 ∷ done ∷ done ∷ done ∷ event (plain BlockingEnd 150 client 0) 1 ∷ []) (aggregate 210 0 server ∷ aggregate 230 0 client ∷ []) [] false
-
   -- ---- stamps and the packet limit
 
   -- rate 2, window 10: count 2 adds nothing, count 3 adds 5, count 4 adds 10
@@ -188,25 +162,21 @@ pub record Edges : Type 0 where
       ran (openWith 0 (some 2) 10)
       (sim-network-stack 100 (handedIn 0 100 client) ∷ sim-network-stack 100 (handedIn 0 100 client) ∷ sim-network-stack 100 (handedIn 0 100 client) ∷ sim-network-stack 100 (handedIn 0 100 client) ∷ [])
       ≡ seen (yes-step ∷ yes-step ∷ yes-step ∷ yes-step ∷ []) (aggregate 100 5 client ∷ aggregate 100 5 server ∷ aggregate 100 10 client ∷ aggregate 100 10 server ∷ []) (100 ∷ 100 ∷ 100 ∷ 100 ∷ []) false
-
   -- window div rate is 0: no extra delay and no aggregate test
   pub no-extra :
       ran (openWith 0 (some 2) 1)
       (sim-network-stack 100 (handedIn 0 100 client) ∷ sim-network-stack 100 (handedIn 0 100 client) ∷ sim-network-stack 100 (handedIn 0 100 client) ∷ [])
       ≡ seen (yes-step ∷ yes-step ∷ yes-step ∷ []) [] (100 ∷ 100 ∷ 100 ∷ []) false
-
   -- window div rate is 1: extra 1
   pub some-extra :
       ran (openWith 0 (some 2) 2)
       (sim-network-stack 100 (handedIn 0 100 client) ∷ sim-network-stack 100 (handedIn 0 100 client) ∷ sim-network-stack 100 (handedIn 0 100 client) ∷ [])
       ≡ seen (yes-step ∷ yes-step ∷ yes-step ∷ []) (aggregate 100 1 client ∷ aggregate 100 1 server ∷ []) (100 ∷ 100 ∷ 100 ∷ []) false
-
   -- window 10: an age of 9, of 10, of 11
   pub stamp-ages :
       ran (openWith 0 none 10)
       (sim-network-stack 100 (handedIn 0 100 client) ∷ sim-network-stack 109 (handedIn 0 109 client) ∷ sim-network-stack 110 (handedIn 0 110 client) ∷ sim-network-stack 111 (handedIn 0 111 client) ∷ [])
       ≡ seen (yes-step ∷ yes-step ∷ yes-step ∷ yes-step ∷ []) [] (109 ∷ 110 ∷ 111 ∷ []) false
-
   -- ---- number 10: each sum at 2^62 - 1 and one past it
 
   -- a base head of c plus its sum: exactly 2^62 - 1
@@ -214,25 +184,21 @@ pub record Edges : Type 0 where
       ran (openWith 0 none 1_000_000_000)
       (setBlock client 0 10 ∷ pick-next 0 ∷ push (flagged 0 1 client true false false) ∷ pick-next 4_611_686_018_427_387_803 ∷ pick-next 4_611_686_018_427_387_803 ∷ push (handedIn 1 101 client) ∷ pick-next 50 ∷ [])
       ≡ seen (done ∷ event (plain BlockingBegin 0 client 0) 2 ∷ done ∷ event (plain BlockingEnd 4_611_686_018_427_387_803 client 0) 1 ∷ event (packet TunnelSent 4_611_686_018_427_387_803 0 client true false false) 3 ∷ done ∷ event (plain NormalSent 4_611_686_018_427_387_903 client 0) 1 ∷ []) [] [] false
-
   -- a base head of c plus its sum: one past
   pub sum-past-limit :
       ran (openWith 0 none 1_000_000_000)
       (setBlock client 0 10 ∷ pick-next 0 ∷ push (flagged 0 1 client true false false) ∷ pick-next 4_611_686_018_427_387_803 ∷ pick-next 4_611_686_018_427_387_803 ∷ push (handedIn 1 102 client) ∷ pick-next 50 ∷ [])
       ≡ seen (done ∷ event (plain BlockingBegin 0 client 0) 2 ∷ done ∷ event (plain BlockingEnd 4_611_686_018_427_387_803 client 0) 1 ∷ event (packet TunnelSent 4_611_686_018_427_387_803 0 client true false false) 3 ∷ done ∷ refused 10 0 ∷ []) [] [] false
-
   -- c: an action's moment plus duration: exactly 2^62 - 1
   pub duration-at-limit :
       ran (openWith 0 none 1_000_000_000)
       (setBlock client 4_611_686_018_427_387_902 1 ∷ pick-next 4_611_686_018_427_387_902 ∷ pick-next 4_611_686_018_427_387_902 ∷ [])
       ≡ seen (done ∷ event (plain BlockingBegin 4_611_686_018_427_387_902 client 0) 2 ∷ event (plain BlockingEnd 4_611_686_018_427_387_903 client 0) 1 ∷ []) [] [] false
-
   -- c: an action's moment plus duration: one past
   pub duration-past-limit :
       ran (openWith 0 none 1_000_000_000)
       (setBlock client 4_611_686_018_427_387_903 1 ∷ pick-next 4_611_686_018_427_387_903 ∷ [])
       ≡ seen (done ∷ refused 10 0 ∷ []) [] [] false
-
   -- ---- plausible misreadings (document 01)
 
   -- weighing bypassable against base by the shifted moment: see 2 above; the misreading answers the packet at 60
@@ -240,31 +206,26 @@ pub record Edges : Type 0 where
       ran (openWith 0 (some 1) 1000)
       (sim-network-stack 0 (handedIn 0 0 client) ∷ sim-network-stack 0 (handedIn 0 0 client) ∷ pick-next 0 ∷ pick-next 1000 ∷ setBypassableBlock client 0 2000 ∷ pick-next 0 ∷ push (handedIn 0 10 client) ∷ push (flagged 0 60 client false true false) ∷ push (handedIn 1 50 client) ∷ pick-next 0 ∷ [])
       ≡ seen (yes-step ∷ yes-step ∷ event (plain TunnelRecv 0 server 0) 3 ∷ event (plain TunnelRecv 1000 server 0) 1 ∷ done ∷ event (packet BlockingBegin 0 0 client false true false) 2 ∷ done ∷ done ∷ done ∷ event (plain NormalSent 1050 client 0) 1 ∷ []) [] (0 ∷ 0 ∷ []) true
-
   -- scanning for the tail with two packets waiting: the length is 1000, not 940
   pub misreading-two-packets :
       ran (openWith 0 none 1_000_000_000)
       (setBlock client 100 1000 ∷ pick-next 100 ∷ push (handedIn 0 100 client) ∷ push (handedIn 0 160 client) ∷ pick-next 100 ∷ [])
       ≡ seen (done ∷ event (plain BlockingBegin 100 client 0) 2 ∷ done ∷ done ∷ event (plain BlockingEnd 1100 client 0) 1 ∷ []) (aggregate 1100 1000 client ∷ aggregate 1100 1000 server ∷ []) [] false
-
   -- dropping an aggregate of length 0: two records stand
   pub misreading-length-0 :
       ran (openWith 20 none 1_000_000_000)
       (setBlock client 100 50 ∷ pick-next 100 ∷ push (handedIn 0 110 client) ∷ push (handedIn 0 120 client) ∷ push (handedIn 0 151 client) ∷ pick-next 100 ∷ [])
       ≡ seen (done ∷ event (plain BlockingBegin 100 client 0) 2 ∷ done ∷ done ∷ done ∷ event (plain BlockingEnd 150 client 0) 1 ∷ []) (aggregate 210 0 server ∷ aggregate 230 0 client ∷ []) [] false
-
   -- clearing the bypassable flag with the block: it stays
   pub misreading-flag :
       ran (openWith 0 none 1_000_000_000)
       (setBypassableBlock client 100 50 ∷ pick-next 100 ∷ pick-next 150 ∷ [])
       ≡ seen (done ∷ event (packet BlockingBegin 100 0 client false true false) 2 ∷ event (plain BlockingEnd 150 client 0) 1 ∷ []) [] [] true
-
   -- evicting a stamp whose age equals the window: it stays
   pub misreading-stamp-age :
       ran (openWith 0 none 10)
       (sim-network-stack 100 (handedIn 0 100 client) ∷ sim-network-stack 110 (handedIn 0 110 client) ∷ [])
       ≡ seen (yes-step ∷ yes-step ∷ []) [] (100 ∷ 110 ∷ []) false
-
   -- replacing a waiting packet only while blocked: no block is needed
   pub misreading-replace :
       ran (openWith 0 none 1_000_000_000)

@@ -54,10 +54,8 @@ pub record TableInputs : Type 0 where
   -- 1: 0 words; and the lengths about R = 1 and R = 65,535
   pub one : map (λ (words : ℕ). openRefusal words plainOpening) (0 ∷ 256 ∷ 259 ∷ 261 ∷ 262_400 ∷ []) ≡ some 1 ∷ some 1 ∷ some 1 ∷ some 1 ∷ some 1 ∷ []
   pub lengths : map (λ (words : ℕ). openRefusal words plainOpening) (260 ∷ 264 ∷ 262_396 ∷ []) ≡ none ∷ none ∷ none ∷ []
-
   -- 3: a choice after a 10
   pub three : call (withEnded fresh true) (pick-next 100) ≡ refusedIn 3 (withEnded fresh true)
-
   -- 4: rate 0. Rates 1 and 4,294,967,295 are within, 4,294,967,296 is not, also as the queue rate beside a network rate
   pub four :
       map (λ (rate : ℕ). openRefusal 260 (opensWith (some rate) none 0 0 noMachines)) (0 ∷ 1 ∷ 4_294_967_295 ∷ 4_294_967_296 ∷ [])
@@ -80,7 +78,6 @@ pub record TableInputs : Type 0 where
   pub four-machines :
       map (λ (m : ℕ). openRefusal 260 (opensWith none none 0 0 (record { actionDelay = 0; reportingDelay = 0; machines = m }))) (16 ∷ 17 ∷ [])
       ≡ none ∷ some 4 ∷ []
-
   -- 5: machine 0 of 0; machine 1 of 2 is there, 2 is not. Kind 10 with machine 99 gives 6, `Cancel` for machine 0 of 0 gives 5
   pub five : call tiny (set-timer (slot client 0) 5) ≡ refusedIn 5 tiny
   pub five-machine : map (λ (m : ℕ). told fresh (set-timer (slot client m) 5)) (1 ∷ 2 ∷ []) ≡ done ∷ refused 5 0 ∷ []
@@ -88,10 +85,8 @@ pub record TableInputs : Type 0 where
       map (λ (k : ℕ). told fresh (push (eventFor k 5 0 2))) (0 ∷ 1 ∷ 2 ∷ 3 ∷ 4 ∷ 5 ∷ 6 ∷ 7 ∷ 8 ∷ 9 ∷ 10 ∷ [])
       ≡ done ∷ done ∷ refused 5 0 ∷ done ∷ done ∷ done ∷ refused 5 0 ∷ done ∷ refused 5 0 ∷ refused 5 0 ∷ refused 6 0 ∷ []
   pub five-cancel : told tiny (set-action (slot client 0) (actionFor 0 0 0)) ≡ refused 5 0
-
   -- 6: `Cancel`; only `SendPadding` and `BlockOutgoing` can be set
   pub six : map (λ (k : ℕ). told fresh (set-action (slot client 0) (actionFor k 5 0))) (0 ∷ 1 ∷ 2 ∷ 3 ∷ []) ≡ refused 6 0 ∷ done ∷ done ∷ refused 6 0 ∷ []
-
   -- 7: moment 2^62. 2^62 − 1 is taken
   pub seven :
       map (λ (t : ℕ). told fresh (push (eventFor 1 t 0 0))) (4_611_686_018_427_387_903 ∷ 4_611_686_018_427_387_904 ∷ []) ≡ done ∷ refused 7 0 ∷ []
@@ -106,14 +101,11 @@ pub record TableInputs : Type 0 where
   pub seven-choice : map (λ (t : ℕ). told fresh (pick-next t)) (4_611_686_018_427_387_903 ∷ 4_611_686_018_427_387_904 ∷ []) ≡ nothing-left 1 ∷ refused 7 0 ∷ []
   pub seven-step :
       map (λ (t : ℕ). told fresh (sim-network-stack t (eventFor 4 5 0 0))) (4_611_686_018_427_387_903 ∷ 4_611_686_018_427_387_904 ∷ []) ≡ no-step ∷ refused 7 0 ∷ []
-
   -- 8: moment 5, delay 6. Delay 5 is not above it, and such an event may be pushed
   pub eight : map (λ (d : ℕ). told fresh (sim-network-stack 5 (eventFor 0 5 d 0))) (5 ∷ 6 ∷ []) ≡ yes-step ∷ refused 8 0 ∷ []
   pub eight-pushed : told fresh (push (eventFor 0 5 6 0)) ≡ done
-
   -- 9: R = 1, second push
   pub nine : (call tiny (push (eventFor 1 5 0 0)) ≡ record { answer = done; state = tinyFull }) × (call tinyFull (push (eventFor 1 5 0 0)) ≡ refusedIn 9 tinyFull)
-
   -- 10: block action at 2^62 − 1, duration 1: no round is finished, and the state is marked ended
   pub ten :
       call (withAction fresh client 0 (record { kind = BlockOutgoing; moment = 4_611_686_018_427_387_903; duration = 1; bypass = false; replace = false })) (pick-next 100)
@@ -125,7 +117,6 @@ pub record TableInputs : Type 0 where
   pub ten-total :
       (told (withRounds fresh 4_611_686_018_427_387_902) (pick-next 100) ≡ nothing-left 1)
       × (told (withRounds fresh 4_611_686_018_427_387_903) (pick-next 100) ≡ refused 10 0)
-
   -- what is handed in and ignored is kept as 0: the machine of a kind without one, the duration of `SendPadding`
   pub ignored :
       (call fresh (push (eventFor 1 5 0 99)) ≡ record { answer = done; state = queuedIn fresh (plain NormalSent 5 client 0) })
