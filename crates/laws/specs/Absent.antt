@@ -12,24 +12,28 @@ use borrow.Author.Tests.{leb-true, leb-false, eq-eqb}
 use Rattle.rules.specs.Basics.{Delay, after, absent, _≤ᵈ_, earlier}
 use Rattle.rules.specs.ChoiceDelays.{slotDelay, leastDelay}
 use Rattle.rules.specs.ChoiceRound.{slotAt}
-use Rattle.laws.specs.Counts.{by-if, by-test}
+use Rattle.laws.specs.Branches.{by-if, by-test}
 
 -- ---- delays
 
-pub le-absent : (d : Delay) → d ≤ᵈ absent ≡ true
+le-absent : (d : Delay) → d ≤ᵈ absent ≡ true
 le-absent (after a) = refl
 le-absent absent = refl
 
-pub absent-le : (d : Delay) → absent ≤ᵈ d ≡ true → d ≡ absent
+-- only an absent delay is not earlier than an absent one
+absent-le : (d : Delay) → absent ≤ᵈ d ≡ true → d ≡ absent
 absent-le (after a) h = absurd (false≢true h)
 absent-le absent h = refl
 
+-- a delay that is there is not absent
 pub after-absent : (n : ℕ) → after n ≡ absent → ⊥
 after-absent n h = let z : _≡_ {A = ℕ} 0 1 = cc in omega arith
 
+-- the lesser of two delays is one of them
 pub earlier-is : (a b : Delay) (d : ℕ) → earlier a b ≡ after d → (a ≡ after d) ⊎ (b ≡ after d)
 earlier-is a b d = by-if (λ (x : Delay). x ≡ after d → (a ≡ after d) ⊎ (b ≡ after d)) (a ≤ᵈ b) (λ h. inl h) (λ h. inr h)
 
+-- it is absent only where both are
 pub earlier-absent : (a b : Delay) → earlier a b ≡ absent → (a ≡ absent) × (b ≡ absent)
 earlier-absent a b =
     by-test
@@ -40,6 +44,7 @@ earlier-absent a b =
 
 -- ---- the cascade: what fits first is absent only where all are
 
+-- 1. an absent n fits only where all are absent
 pub aggregate-absent :
     (n s i b q : Delay) → n ≡ absent → (n ≤ᵈ s && n ≤ᵈ i && n ≤ᵈ b && n ≤ᵈ q) ≡ true
     → (s ≡ absent) × (i ≡ absent) × (b ≡ absent) × (q ≡ absent)
@@ -50,6 +55,7 @@ aggregate-absent absent absent absent (after x) q e h = absurd (false≢true h)
 aggregate-absent absent absent absent absent (after x) e h = absurd (false≢true h)
 aggregate-absent absent absent absent absent absent e h = (refl, refl, refl, refl)
 
+-- 2. to 5. past a case that does not fit, the next one fits only where its delay is there
 pub block-absent :
     (b s i q n : Delay) → b ≡ absent → (n ≤ᵈ s && n ≤ᵈ i && n ≤ᵈ b && n ≤ᵈ q) ≡ false → (b ≤ᵈ s && b ≤ᵈ i && b ≤ᵈ q) ≡ true → ⊥
 block-absent (after x) s i q n e f h = after-absent x e
@@ -85,6 +91,7 @@ Early now [] = Unit
 Early now (none ∷ l) = Early now l
 Early now (some t ∷ l) = (t < now) × Early now l
 
+-- a moment in such slots is before now
 pub early-at : (now : ℕ) (l : List (Option ℕ)) (m : ℕ) {t : ℕ} → Early now l → getD l m none ≡ some t → t < now
 early-at now [] m {t} e h = absurd (Option·none-ne-some t h)
 early-at now (none ∷ l) zero {t} e h = absurd (Option·none-ne-some t h)
@@ -100,6 +107,7 @@ slot-absent now t =
     (λ e h. absurd (after-absent (t - now) h))
     (λ e h. leb-false now t e)
 
+-- no slot is at or after now where the least delay is absent
 pub absent-early : (now : ℕ) (l : List (Option ℕ)) → leastDelay now l ≡ absent → Early now l
 absent-early now [] h = tt
 absent-early now (none ∷ l) h = absent-early now l ((earlier-absent absent (leastDelay now l) h) .1)
@@ -107,6 +115,7 @@ absent-early now (some t ∷ l) h =
     let b = earlier-absent (slotDelay now (some t)) (leastDelay now l) h in
     (slot-absent now t (b .0), absent-early now l (b .1))
 
+-- there is a value
 abbrev pub There : {A : Type 0} → Option A → Type 0
 There none = ⊥
 There (some a) = Unit

@@ -1,27 +1,16 @@
 -- How the rules' changes of a state change its counts: records used, records reserved, aggregates.
 use Prim.Native.Nat.{ℕ, zero, suc, _+_, _≤_}
 use mathlib.Core.Path.{_≡_, refl, ap}
-use mathlib.Core.Bool.{Bool, true, false}
 use mathlib.Core.List.{List, [], _∷_, tail, head?}
 use mathlib.Core.Option.{Option, none, some, Option·none-ne-some}
 use native.Mathlib.Omega.{arith}
 use lib.Dec.{ltb}
 use lib.ListN.{length, set, getD}
-use Rattle.rules.specs.Basics.{if_then_else_, before, rank, Side, client, server}
+use Rattle.rules.specs.Basics.{before, rank, Side, client, server}
 use Rattle.rules.specs.State.{Event, Held, inRecord, Aggregate, Chain, base, blocking, bypassable, internal, SideState, State, queue, withQueue, withQueues, side, withSide, withAggregates, withFree, freePlace, held, queued, sideUsed, sideReserved, used, reserved, roundsLeft}
 use Rattle.rules.specs.Queueing.{insert, pushSide, putEvent, pushEvent, chainOf}
 use Rattle.rules.specs.Aggregates.{insertAggregate, addAggregate, addAggregates, aggregatesOf}
-
--- ---- a property of both branches is one of the whole
-
-pub by-if : {A : Type 0} (P : A → Type 0) (b : Bool) {a c : A} → P a → P c → P (if b then a else c)
-by-if P true p q = p
-by-if P false p q = q
-
-pub by-test :
-    {A : Type 0} (P : A → Type 0) (b : Bool) {a c : A} → (b ≡ true → P a) → (b ≡ false → P c) → P (if b then a else c)
-by-test P true p q = p refl
-by-test P false p q = q refl
+use Rattle.laws.specs.Branches.{by-if}
 
 -- ---- one side changed
 
@@ -30,15 +19,18 @@ unfolding used
 used-with s client x = omega arith
 used-with s server x = omega arith
 
+-- the same of reserved
 pub reserved-with : (s : State) (z : Side) (x : SideState) → reserved (withSide s z x) + sideReserved (side s z) ≡ reserved s + sideReserved x
 unfolding reserved
 reserved-with s client x = omega arith
 reserved-with s server x = omega arith
 
+-- the side named is the one given
 pub side-with : (s : State) (z : Side) (x : SideState) → side (withSide s z x) z ≡ x
 side-with s client x = refl
 side-with s server x = refl
 
+-- and the aggregates stay
 pub aggregates-with : (s : State) (z : Side) (x : SideState) → withSide s z x .aggregates ≡ s .aggregates
 aggregates-with s client x = refl
 aggregates-with s server x = refl
@@ -59,6 +51,7 @@ length-insert e (x ∷ l) =
     refl
     (ap suc (length-insert e l))
 
+-- one more is queued on its side
 pub queued-push : (x : SideState) (c : Chain) (e : Held Event) → queued (withQueues x (withQueue (x .queues) c (insert e (queue (x .queues) c)))) ≡ suc (queued x)
 queued-push x base e = omega (arith, length-insert e (x .queues .base))
 queued-push x blocking e = omega (arith, length-insert e (x .queues .blocking))
@@ -70,10 +63,12 @@ unfolding putEvent
 used-put s e =
     omega (arith, used-with s (e .value .side) (pushSide (side s (e .value .side)) (chainOf (e .value)) e), queued-push (side s (e .value .side)) (chainOf (e .value)) e)
 
+-- the free list plays no part in used
 pub used-free : (s : State) (f : List ℕ) → used (withFree s f) ≡ used s
 unfolding used
 used-free s f = refl
 
+-- a pushed event uses one record more, and reserves none
 pub used-push : (s : State) (e : Event) → used (pushEvent s e) ≡ suc (used s)
 unfolding pushEvent used
 used-push s e = used-put (withFree s (tail (s .free))) (inRecord (freePlace (s .free)) e)
@@ -86,6 +81,7 @@ pub reserved-push : (s : State) (e : Event) → reserved (pushEvent s e) ≡ res
 unfolding pushEvent reserved
 reserved-push s e = reserved-put (withFree s (tail (s .free))) (inRecord (freePlace (s .free)) e)
 
+-- R stays
 pub room-push : (s : State) (e : Event) → pushEvent s e .room ≡ s .room
 unfolding pushEvent putEvent
 room-push s e = go (e .side)
@@ -97,6 +93,7 @@ room-push s e = go (e .side)
     go client = refl
     go server = refl
 
+-- the aggregates stay
 pub aggregates-put : (s : State) (e : Held Event) → putEvent s e .aggregates ≡ s .aggregates
 unfolding putEvent
 aggregates-put s e = aggregates-with s (e .value .side) (pushSide (side s (e .value .side)) (chainOf (e .value)) e)
@@ -128,11 +125,13 @@ pub reserved-add-one : (s : State) (a : Aggregate) → reserved (addAggregate s 
 unfolding reserved addAggregate
 reserved-add-one s a = refl
 
+-- each of a list adds one aggregate
 pub aggregates-add : (s : State) (new : List Aggregate) → length (addAggregates s new .aggregates) ≡ length new + length (s .aggregates)
 unfolding addAggregates
 aggregates-add s [] = omega arith
 aggregates-add s (a ∷ new) = omega (arith, aggregates-add (addAggregate s a) new, aggregates-add-one s a)
 
+-- each of a list: one record used more, none reserved, one aggregate more
 pub used-add : (s : State) (new : List Aggregate) → used (addAggregates s new) ≡ used s + length new
 unfolding addAggregates
 used-add s [] = omega arith
@@ -143,6 +142,7 @@ unfolding addAggregates
 reserved-add s [] = refl
 reserved-add s (a ∷ new) = omega (arith, reserved-add (addAggregate s a) new, reserved-add-one s a)
 
+-- the aggregates given anew
 pub used-aggregates : (s : State) (l : List (Held Aggregate)) → used (withAggregates s l) + length (s .aggregates) ≡ used s + length l
 unfolding used
 used-aggregates s l = omega arith
@@ -151,6 +151,7 @@ pub reserved-aggregates : (s : State) (l : List (Held Aggregate)) → reserved (
 unfolding reserved
 reserved-aggregates s l = refl
 
+-- the free list plays no part in reserved
 pub reserved-free : (s : State) (f : List ℕ) → reserved (withFree s f) ≡ reserved s
 unfolding reserved
 reserved-free s f = refl
@@ -172,6 +173,7 @@ held-cleared (some b ∷ l) zero h = omega arith
 held-cleared (none ∷ l) (suc m) h = held-cleared l m h
 held-cleared (some b ∷ l) (suc m) h = omega (arith, held-cleared l m h)
 
+-- a list without its first is one shorter
 pub length-tail : {A : Type 0} (l : List A) {a : A} → head? l ≡ some a → suc (length (tail l)) ≡ length l
 length-tail [] {a} h = absurd (Option·none-ne-some a h)
 length-tail (x ∷ l) h = refl

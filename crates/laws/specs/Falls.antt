@@ -1,4 +1,4 @@
--- A round keeps the room, and one that does not end the choice lowers A + 3B + T + 4S.
+-- A round never lets used + reserved grow, and one that does not end the choice lowers A + 3B + T + 4S.
 use Prim.Native.Nat.{ℕ, zero, suc, _+_, _≤_, _<_}
 use mathlib.Core.Path.{_≡_, refl, ap, subst}
 use mathlib.Core.Bool.{true}
@@ -14,7 +14,8 @@ use Rattle.rules.specs.Queueing.{pushEvent}
 use Rattle.rules.specs.ChoiceDelays.{Block}
 use Rattle.rules.specs.ChoiceRound.{Slot, Candidate, anAggregate, aBlock, anEvent, aTimer, anAction, none-left, RoundOutcome, next, taken, nothing, passed, takeAggregate, raisedSum, clearBlock, endBlock, endEvent, endAggregates, liftEvent, takeEvent, popSide, clearTimer, noTimer, timerEvent, noAction, setsBlock, actedSide, actedEvent, doAction, act, closed, candidate, round, roundSums, fits, actionIn}
 use Rattle.rules.specs.Choice.{rounds, settle}
-use Rattle.laws.specs.Counts.{by-if, used-with, reserved-with, aggregates-with, roundsLeft-is, used-push, reserved-push, aggregates-push, at-most-two, held-cleared, used-add, reserved-add, aggregates-add, used-aggregates, reserved-aggregates, used-free, reserved-free, length-tail}
+use Rattle.laws.specs.Branches.{by-if}
+use Rattle.laws.specs.Counts.{used-with, reserved-with, aggregates-with, roundsLeft-is, used-push, reserved-push, aggregates-push, at-most-two, held-cleared, used-add, reserved-add, aggregates-add, used-aggregates, reserved-aggregates, used-free, reserved-free, length-tail}
 use Rattle.laws.specs.Found.{Found, found}
 
 -- what holds of the state after a round against the one before it
@@ -22,10 +23,12 @@ pub record Falls (s t : State) : Type 0 where
   pub room : used t + reserved t ≤ used s + reserved s
   pub left : roundsLeft t < roundsLeft s
 
+-- a round that ends the choice
 pub record Stays (s t : State) : Type 0 where
   pub room : used t + reserved t ≤ used s + reserved s
   pub left : roundsLeft t ≤ roundsLeft s
 
+-- what a round keeps, by how it ends
 abbrev pub Kept : State → RoundOutcome → Type 0
 Kept s (next t) = Falls s t
 Kept s (taken e t) = Stays s t
@@ -58,6 +61,7 @@ pub record Cleared (s t : State) : Type 0 where
   pub more : used t ≤ used s + 2
   pub pending : length (t .aggregates) ≤ length (s .aggregates) + 2
 
+-- so it is where the block was set
 pub block-cleared : (s : State) (now : ℕ) (k : Block) → side s (k .side) .blockEnd ≡ some (k .end) → Cleared s (clearBlock s now k)
 unfolding clearBlock
 block-cleared s now k h =
@@ -106,7 +110,7 @@ timer-falls s z t h =
     }
 
 -- an action done: its slot reserves four records less, and a block that it sets three more
-acted-used : (k : ActionKind) (x : SideState) (a : Action) (m : ℕ) → sideUsed (noAction (actedSide k x a) m) ≡ sideUsed x
+pub acted-used : (k : ActionKind) (x : SideState) (a : Action) (m : ℕ) → sideUsed (noAction (actedSide k x a) m) ≡ sideUsed x
 acted-used SendPadding x a m = refl
 acted-used BlockOutgoing x a m = by-if (λ (y : SideState). sideUsed (noAction y m) ≡ sideUsed x) (setsBlock x a) refl refl
 
@@ -148,6 +152,7 @@ popped-used x blocking = omega (arith, tail-le (x .queues .blocking))
 popped-used x bypassable = omega (arith, tail-le (x .queues .bypassable))
 popped-used x internal = omega (arith, tail-le (x .queues .internal))
 
+-- an event out of its chain
 pub lift-kept : (s : State) (h : Head) → Stays s (liftEvent s h)
 unfolding liftEvent
 lift-kept s h =
@@ -158,7 +163,7 @@ lift-kept s h =
       left = omega (arith, reserved-with s z x, roundsLeft-is s, roundsLeft-is (withSide s z x), ap length (aggregates-with s z x));
     }
 
-pub event-kept : (s : State) (h : Head) → Stays s (takeEvent s h)
+event-kept : (s : State) (h : Head) → Stays s (takeEvent s h)
 unfolding takeEvent used reserved roundsLeft
 event-kept s h = let k : Stays s (liftEvent s h) = lift-kept s h in record { room = k .room; left = k .left }
 
@@ -179,10 +184,12 @@ closed-kept s (taken e t) h = record { room = h .room; left = h .left }
 closed-kept s (nothing t) h = record { room = h .room; left = h .left }
 closed-kept s (passed t) h = h
 
+-- the ended mark alone
 pub ended-kept : (s : State) → Stays s (withEnded s true)
 unfolding used reserved roundsLeft
 ended-kept s = record { room = omega arith; left = omega arith }
 
+-- a round, however it ends
 pub round-kept : (s : State) (now : ℕ) → Kept s (round s now)
 unfolding round
 round-kept s now =
@@ -192,17 +199,18 @@ round-kept s now =
     (closed-kept s (act s now (candidate s now)) (act-kept s now (candidate s now) (found s now)))
     (ended-kept s)
 
--- (1) a round that does not end the choice lowers A + 3B + T + 4S
+-- a round that does not end the choice lowers A + 3B + T + 4S
 pub round-falls : (s : State) (now : ℕ) (t : State) → round s now ≡ next t → roundsLeft t < roundsLeft s
 round-falls s now t h = (subst (Kept s) h (round-kept s now)) .left
 
--- (2) used + reserved never grows in a round
+-- the state after a round, however it ends
 abbrev pub stateAfter : RoundOutcome → State
 stateAfter (next t) = t
 stateAfter (taken e t) = t
 stateAfter (nothing t) = t
 stateAfter (passed t) = t
 
+-- used + reserved never grows in a round
 pub room-kept : (s : State) (now : ℕ) → used (stateAfter (round s now)) + reserved (stateAfter (round s now)) ≤ used s + reserved s
 room-kept s now = go (round s now) (round-kept s now)
   where

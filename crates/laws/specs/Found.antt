@@ -10,8 +10,9 @@ use Rattle.rules.specs.Basics.{Delay, after, absent}
 use Rattle.rules.specs.State.{State, side}
 use Rattle.rules.specs.ChoiceDelays.{Delays, delays, Block, firstBlock, nextBlock, offered}
 use Rattle.rules.specs.ChoiceRound.{Slot, slotAt, slotOf, Candidate, anAggregate, aBlock, anEvent, aTimer, anAction, none-left, orNone, dueTimer, dueAction, actionIn, actionFrom, actionSlot, aggregateFirst, blockFirst, eventFirst, timerFirst, firstFitting, candidate}
-use Rattle.laws.specs.Counts.{by-if, by-test}
+use Rattle.laws.specs.Branches.{by-if, by-test}
 
+-- what the candidate carries is there
 abbrev pub Found : State → Candidate → Type 0
 Found s (anAggregate a) = head? (s .aggregates) ≡ some a
 Found s (aBlock k) = side s (k .side) .blockEnd ≡ some (k .end)
@@ -25,6 +26,7 @@ found-or : {A : Type 0} (s : State) (f : A → Candidate) (o : Option A) → ((a
 found-or s f none h = tt
 found-or s f (some a) h = h a refl
 
+-- the next block is one that is set
 pub found-block : (s : State) → Found s (orNone aBlock (nextBlock s))
 found-block s = go (s .client .blockEnd) refl (s .server .blockEnd) refl
   where
@@ -43,6 +45,7 @@ at-suc : (x : Option ℕ) (l : List (Option ℕ)) (t : ℕ) (o : Option ℕ) →
 at-suc x l t none h = tt
 at-suc x l t (some m) h = h
 
+-- the lowest slot with the moment has it
 pub slot-at : (t : ℕ) (l : List (Option ℕ)) → At l t (slotAt t l)
 slot-at t [] = tt
 slot-at t (none ∷ l) = at-suc none l t (slotAt t l) (slot-at t l)
@@ -85,6 +88,7 @@ found-first s now d =
     (found-or s anEvent (offered s now) (λ h g. tt))
     (by-if (Found s) (timerFirst d) (found-timer s now (d .i)) (found-action s now (d .s)))))
 
+-- what a round takes up is there
 pub found : (s : State) (now : ℕ) → Found s (candidate s now)
 unfolding candidate
 found s now = found-first s now (delays s now)

@@ -9,13 +9,21 @@ use Rattle.rules.specs.State.{Event, Held, inRecord, Chain, base, blocking, byp
 use Rattle.rules.specs.ChoiceHeads.{Head, headAs, firstBy, byMoment, byRawMoment, byDelay, internalHead, baseHead, sideHead, queueHead, waitingHead, passingHead, waitingFirst, notBefore, earliestOfSide, headDelay, earliestBlocked, heldBack, peekFrom, peekQueue}
 use Rattle.rules.specs.ChoiceDelays.{Delays, delays, offered, nextBlock}
 use Rattle.rules.specs.ChoiceRound.{Slot, Candidate, anAggregate, aBlock, anEvent, aTimer, anAction, none-left, orNone, timerSlot, dueTimer, dueAction, actionSlot, actionIn, actionFrom, aggregateFirst, blockFirst, eventFirst, timerFirst, candidate}
-use Rattle.laws.specs.Counts.{by-if}
+use Rattle.laws.specs.Branches.{by-if}
 use Rattle.laws.specs.Fits.{All}
 use Rattle.laws.specs.Sound.{EventOk, SideOk, Sound, sound-side}
 
+-- what holds of two heads holds of the first of them
+first-holds : (P : Option Head → Type 0) (lt : Head → Head → Bool) (a b : Option Head) → P a → P b → P (firstBy lt a b)
+unfolding firstBy
+first-holds P lt none b p q = q
+first-holds P lt (some a) none p q = p
+first-holds P lt (some a) (some b) p q = by-if P (lt b a) q p
+
 -- ---- of one side
 
-abbrev HeadIn : Side → SideState → Option Head → Type 0
+-- the head is of side z, and the first of its chain in x
+abbrev pub HeadIn : Side → SideState → Option Head → Type 0
 HeadIn z x none = Unit
 HeadIn z x (some h) = (h .event .side ≡ z) × (head? (queue (x .queues) (h .chain)) ≡ some (inRecord (h .place) (h .event)))
 
@@ -29,31 +37,26 @@ head-in z x c p o = go (queue (x .queues) c) refl (o .chains c .events)
     go [] e h = tt
     go (v ∷ l) e h = (h .0 .of-side, ap head? e)
 
-first-in : (z : Side) (x : SideState) (lt : Head → Head → Bool) (a b : Option Head) → HeadIn z x a → HeadIn z x b → HeadIn z x (firstBy lt a b)
-unfolding firstBy
-first-in z x lt none b p q = q
-first-in z x lt (some a) none p q = p
-first-in z x lt (some a) (some b) p q = by-if (HeadIn z x) (lt b a) q p
-
 side-head-in : (z : Side) (x : SideState) → SideOk z x → HeadIn z x (sideHead x)
 unfolding sideHead
 side-head-in z x o =
-    first-in z x byMoment _ _ (head-in z x base (x .sum) o)
-    (first-in z x byMoment _ _
-    (first-in z x byMoment _ _ (head-in z x bypassable 0 o) (head-in z x blocking 0 o))
+    first-holds (HeadIn z x) byMoment _ _ (head-in z x base (x .sum) o)
+    (first-holds (HeadIn z x) byMoment _ _
+    (first-holds (HeadIn z x) byMoment _ _ (head-in z x bypassable 0 o) (head-in z x blocking 0 o))
     (head-in z x internal 0 o))
 
-waiting-in : (z : Side) (x : SideState) (flag : Bool) → SideOk z x → HeadIn z x (waitingHead flag x)
+-- the first waiting packet
+pub waiting-in : (z : Side) (x : SideState) (flag : Bool) → SideOk z x → HeadIn z x (waitingHead flag x)
 unfolding waitingHead
 waiting-in z x flag o =
-    by-if (HeadIn z x) flag (head-in z x blocking 0 o) (first-in z x byMoment _ _ (head-in z x bypassable 0 o) (head-in z x blocking 0 o))
+    by-if (HeadIn z x) flag (head-in z x blocking 0 o) (first-holds (HeadIn z x) byMoment _ _ (head-in z x bypassable 0 o) (head-in z x blocking 0 o))
 
 passing-in : (z : Side) (x : SideState) (flag : Bool) → SideOk z x → HeadIn z x (passingHead flag x)
 unfolding passingHead
-passing-in z x flag o = by-if (HeadIn z x) flag (first-in z x byRawMoment _ _ n (head-in z x bypassable 0 o)) n
+passing-in z x flag o = by-if (HeadIn z x) flag (first-holds (HeadIn z x) byRawMoment _ _ n (head-in z x bypassable 0 o)) n
   where
     n : HeadIn z x (firstBy byMoment (baseHead x) (internalHead x))
-    n = first-in z x byMoment _ _ (head-in z x base (x .sum) o) (head-in z x internal 0 o)
+    n = first-holds (HeadIn z x) byMoment _ _ (head-in z x base (x .sum) o) (head-in z x internal 0 o)
 
 later-in : (z : Side) (x : SideState) (t : ℕ) (o : Option Head) → HeadIn z x o → HeadIn z x (Option·map (notBefore t) o)
 later-in z x t none h = tt
@@ -62,7 +65,7 @@ later-in z x t (some g) h = h
 earliest-in : (z : Side) (x : SideState) (now : ℕ) → SideOk z x → HeadIn z x (earliestOfSide now x)
 unfolding earliestOfSide
 earliest-in z x now o =
-    first-in z x waitingFirst _ _ (passing-in z x (x .blockBypassable) o)
+    first-holds (HeadIn z x) waitingFirst _ _ (passing-in z x (x .blockBypassable) o)
     (later-in z x (Option·getD (x .blockEnd) now) (waitingHead (x .blockBypassable) x) (waiting-in z x (x .blockBypassable) o))
 
 -- ---- of the state
@@ -75,19 +78,14 @@ named : (s : State) (z : Side) (o : Option Head) → HeadIn z (side s z) o → H
 named s z none h = tt
 named s z (some g) h = subst⁻¹ (λ (y : Side). head? (queue (side s y .queues) (g .chain)) ≡ some (inRecord (g .place) (g .event))) (h .0) (h .1)
 
+-- the first waiting packet of a side, seen from the state
 pub waiting-first : (s : State) (z : Side) (flag : Bool) → Sound s → HeadOf s (waitingHead flag (side s z))
 waiting-first s z flag h = named s z (waitingHead flag (side s z)) (waiting-in z (side s z) flag (sound-side h z))
-
-first-of : (s : State) (lt : Head → Head → Bool) (a b : Option Head) → HeadOf s a → HeadOf s b → HeadOf s (firstBy lt a b)
-unfolding firstBy
-first-of s lt none b p q = q
-first-of s lt (some a) none p q = p
-first-of s lt (some a) (some b) p q = by-if (HeadOf s) (lt b a) q p
 
 queue-head-first : (s : State) (now : ℕ) → Sound s → HeadOf s (queueHead s now)
 unfolding queueHead
 queue-head-first s now h =
-    first-of s (byDelay now) (sideHead (s .client)) (sideHead (s .server))
+    first-holds (HeadOf s) (byDelay now) (sideHead (s .client)) (sideHead (s .server))
     (named s client (sideHead (s .client)) (side-head-in client (s .client) (h .client)))
     (named s server (sideHead (s .server)) (side-head-in server (s .server) (h .server)))
 
@@ -139,6 +137,7 @@ first-action : (s : State) (now : ℕ) (i : Delay) → First s (dueAction s now 
 first-action s now absent = tt
 first-action s now (after d) = first-or s (actionFrom s) (actionSlot s (now + d)) (λ z. first-or s (anAction z) (actionIn s z) (λ a. tt))
 
+-- an event that a round takes up
 pub candidate-first : (s : State) (now : ℕ) → Sound s → First s (candidate s now)
 unfolding candidate
 candidate-first s now h =

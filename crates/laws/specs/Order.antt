@@ -11,13 +11,14 @@ use Rattle.rules.specs.Basics.{before, rank}
 use Rattle.rules.specs.State.{Event, Held, Aggregate}
 use Rattle.rules.specs.Queueing.{insert}
 use Rattle.rules.specs.Aggregates.{insertAggregate}
-use Rattle.laws.specs.Counts.{by-if, by-test}
-use Rattle.laws.specs.Fits.{both}
+use Rattle.laws.specs.Branches.{by-if, by-test, both}
 
+-- the first of the list is not before x
 abbrev pub notBeforeFirst : {A : Type 0} → (A → A → Bool) → A → List A → Bool
 notBeforeFirst lt x [] = true
 notBeforeFirst lt x (y ∷ l) = not (lt y x)
 
+-- no element is before the one in front of it
 abbrev pub inOrder : {A : Type 0} → (A → A → Bool) → List A → Bool
 inOrder lt [] = true
 inOrder lt (x ∷ l) = notBeforeFirst lt x l && inOrder lt l
@@ -29,6 +30,7 @@ eventBefore a b = before (a .value .moment) (rank (a .value .kind)) (b .value .m
 abbrev pub aggregateBefore : Held Aggregate → Held Aggregate → Bool
 aggregateBefore a b = ltb (a .value .moment) (b .value .moment)
 
+-- a chain in order without its first
 pub order-tail : {A : Type 0} (lt : A → A → Bool) (l : List A) → inOrder lt l ≡ true → inOrder lt (tail l) ≡ true
 order-tail lt [] h = refl
 order-tail lt (x ∷ l) h = (both (notBeforeFirst lt x l) (inOrder lt l) h) .1
@@ -71,6 +73,7 @@ starts e x (y ∷ l) b h =
     (ap not b)
     h
 
+-- an event queued
 pub insert-in-order : (e : Held Event) (l : List (Held Event)) → inOrder eventBefore l ≡ true → inOrder eventBefore (insert e l) ≡ true
 unfolding eventBefore
 insert-in-order e [] h = refl
@@ -93,6 +96,7 @@ aggregate-starts a x [] b h = ap not b
 aggregate-starts a x (y ∷ l) b h =
     by-if (λ (m : List (Held Aggregate)). notBeforeFirst aggregateBefore x m ≡ true) (ltb (a .value .moment) (y .value .moment)) (ap not b) h
 
+-- an aggregate added
 pub order-insertAggregate : (a : Held Aggregate) (l : List (Held Aggregate)) → inOrder aggregateBefore l ≡ true → inOrder aggregateBefore (insertAggregate a l) ≡ true
 order-insertAggregate a [] h = refl
 order-insertAggregate a (x ∷ l) h =

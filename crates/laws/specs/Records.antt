@@ -1,4 +1,4 @@
--- Each record stands in one chain, once: no call changes how often a record number stands in the chains and among the free ones.
+-- The places of a state, weighed: how queueing, adding, taking and stamping leave each record number as often as it was.
 use Prim.Native.Nat.{ℕ, suc, _+_, _-_, _≤_, _<_}
 use mathlib.Core.Path.{_≡_, refl, sym, ap, _∙_}
 use mathlib.Core.Bool.{Bool, true, false}
@@ -14,20 +14,23 @@ use Rattle.rules.specs.Queueing.{insert, pushSide, putEvent, pushEvent, chainOf
 use Rattle.rules.specs.Aggregates.{insertAggregate, addAggregate, addAggregates}
 use Rattle.rules.specs.ChoiceRound.{popSide, liftEvent, takeEvent}
 use Rattle.rules.specs.NetworkStep.{evict, evicted, stamped, stamp}
-use Rattle.laws.specs.Counts.{by-if}
+use Rattle.laws.specs.Branches.{by-if}
 use Rattle.laws.specs.Heads.{HeadOf}
 
 -- ---- the places of a state, weighed by any weight of a record number. With weight 1 for each it is the number of records; with weight 1 for
 -- r alone it says how often r stands there.
 
+-- the free ones
 abbrev pub weighFree : (ℕ → ℕ) → List ℕ → ℕ
 weighFree w [] = 0
 weighFree w (p ∷ l) = w p + weighFree w l
 
+-- what stands in a chain
 abbrev pub weighList : {A : Type 0} → (ℕ → ℕ) → List (Held A) → ℕ
 weighList w [] = 0
 weighList w (x ∷ l) = w (x .place) + weighList w l
 
+-- the five chains of a side
 abbrev pub weighSide : (ℕ → ℕ) → SideState → ℕ
 weighSide w x =
     weighList w (x .queues .base)
@@ -36,6 +39,7 @@ weighSide w x =
     + weighList w (x .queues .internal)
     + weighList w (x .stamps)
 
+-- all of them
 unfoldable pub weigh : (ℕ → ℕ) → State → ℕ
 weigh w s = weighSide w (s .client) + weighSide w (s .server) + weighList w (s .aggregates) + weighFree w (s .free)
 
@@ -43,16 +47,18 @@ weigh w s = weighSide w (s .client) + weighSide w (s .server) + weighList w (s .
 abbrev pub Same : State → State → Type 0
 Same s t = (w : ℕ → ℕ) → weigh w t ≡ weigh w s
 
+-- one after the other
 pub same-then : (s t u : State) → Same s t → Same t u → Same s u
 same-then s t u a b = λ w. b w ∙ a w
 
 -- ---- weight 1 for each: used and free records
 
-ones-list : {A : Type 0} (l : List (Held A)) → weighList (λ (p : ℕ). 1) l ≡ length l
+-- in a chain as many as are there
+pub ones-list : {A : Type 0} (l : List (Held A)) → weighList (λ (p : ℕ). 1) l ≡ length l
 ones-list [] = refl
 ones-list (x ∷ l) = omega (arith, ones-list l)
 
-ones-free : (l : List ℕ) → weighFree (λ (p : ℕ). 1) l ≡ length l
+pub ones-free : (l : List ℕ) → weighFree (λ (p : ℕ). 1) l ≡ length l
 ones-free [] = refl
 ones-free (x ∷ l) = omega (arith, ones-free l)
 
@@ -61,10 +67,12 @@ ones-side x =
     let q : Queues = x .queues in
     omega (arith, ones-list (q .base), ones-list (q .blocking), ones-list (q .bypassable), ones-list (q .internal), ones-list (x .stamps))
 
-weigh-ones : (s : State) → weigh (λ (p : ℕ). 1) s ≡ used s + length (s .free)
+-- all of them: used and free ones
+pub weigh-ones : (s : State) → weigh (λ (p : ℕ). 1) s ≡ used s + length (s .free)
 unfolding weigh used
 weigh-ones s = omega (arith, ones-side (s .client), ones-side (s .server), ones-list (s .aggregates), ones-free (s .free))
 
+-- the same records are the same number of used and free ones
 pub same-number : (s t : State) → Same s t → used t + length (t .free) ≡ used s + length (s .free)
 same-number s t h = omega (arith, h (λ (p : ℕ). 1), weigh-ones s, weigh-ones t)
 
@@ -75,26 +83,30 @@ unfolding weigh
 weigh-with w s client x = omega arith
 weigh-with w s server x = omega arith
 
+-- the free list given anew
 pub weigh-free : (w : ℕ → ℕ) (s : State) (f : List ℕ) → weigh w (withFree s f) + weighFree w (s .free) ≡ weigh w s + weighFree w f
 unfolding weigh
 weigh-free w s f = omega arith
 
+-- the aggregates given anew
 pub weigh-aggregates : (w : ℕ → ℕ) (s : State) (l : List (Held Aggregate)) → weigh w (withAggregates s l) + weighList w (s .aggregates) ≡ weigh w s + weighList w l
 unfolding weigh
 weigh-aggregates w s l = omega arith
 
+-- a side given anew leaves the free list
 pub free-with : (s : State) (z : Side) (x : SideState) → withSide s z x .free ≡ s .free
 free-with s client x = refl
 free-with s server x = refl
 
-pub first-free : (w : ℕ → ℕ) (f : List ℕ) → 0 < length f → w (freePlace f) + weighFree w (tail f) ≡ weighFree w f
+first-free : (w : ℕ → ℕ) (f : List ℕ) → 0 < length f → w (freePlace f) + weighFree w (tail f) ≡ weighFree w f
 first-free w [] h = absurd (omega arith)
 first-free w (p ∷ f) h = refl
 
-pub tail-free : (f : List ℕ) → 0 < length f → suc (length (tail f)) ≡ length f
+tail-free : (f : List ℕ) → 0 < length f → suc (length (tail f)) ≡ length f
 tail-free [] h = absurd (omega arith)
 tail-free (p ∷ f) h = refl
 
+-- a chain without its first has its record no more
 pub weigh-tail : {A : Type 0} (w : ℕ → ℕ) (l : List (Held A)) (a : Held A) → head? l ≡ some a → w (a .place) + weighList w (tail l) ≡ weighList w l
 weigh-tail w [] a h = absurd (Option·none-ne-some a h)
 weigh-tail {A} w (x ∷ l) a h = ap (λ (v : Held A). w (v .place) + weighList w l) (sym (Option·some-injective x a h))
@@ -116,13 +128,14 @@ weigh-push-side w x blocking e = omega (arith, weigh-insert w e (x .queues .bloc
 weigh-push-side w x bypassable e = omega (arith, weigh-insert w e (x .queues .bypassable))
 weigh-push-side w x internal e = omega (arith, weigh-insert w e (x .queues .internal))
 
-pub weigh-put : (w : ℕ → ℕ) (s : State) (e : Held Event) → weigh w (putEvent s e) ≡ w (e .place) + weigh w s
+weigh-put : (w : ℕ → ℕ) (s : State) (e : Held Event) → weigh w (putEvent s e) ≡ w (e .place) + weigh w s
 unfolding putEvent
 weigh-put w s e =
     let z : Side = e .value .side in
     let x : SideState = pushSide (side s z) (chainOf (e .value)) e in
     omega (arith, weigh-with w s z x, weigh-push-side w (side s z) (chainOf (e .value)) e)
 
+-- where a record is free
 pub push-same : (s : State) (e : Event) → 0 < length (s .free) → Same s (pushEvent s e)
 unfolding pushEvent
 push-same s e h = λ w.
@@ -151,6 +164,7 @@ free-one : (s : State) (a : Aggregate) → 0 < length (s .free) → suc (length 
 unfolding addAggregate
 free-one s a h = tail-free (s .free) h
 
+-- where as many are free
 pub add-same : (s : State) (new : List Aggregate) → length new ≤ length (s .free) → Same s (addAggregates s new)
 unfolding addAggregates
 add-same s [] h = λ w. refl
@@ -166,7 +180,7 @@ weigh-pop-side w x blocking e h = omega (arith, weigh-tail w (x .queues .blockin
 weigh-pop-side w x bypassable e h = omega (arith, weigh-tail w (x .queues .bypassable) e h)
 weigh-pop-side w x internal e h = omega (arith, weigh-tail w (x .queues .internal) e h)
 
-pub weigh-lift : (w : ℕ → ℕ) (s : State) (h : Head) → HeadOf s (some h) → w (h .place) + weigh w (liftEvent s h) ≡ weigh w s
+weigh-lift : (w : ℕ → ℕ) (s : State) (h : Head) → HeadOf s (some h) → w (h .place) + weigh w (liftEvent s h) ≡ weigh w s
 unfolding liftEvent
 weigh-lift w s h g =
     let z : Side = h .event .side in
@@ -176,6 +190,7 @@ free-lift : (s : State) (h : Head) → liftEvent s h .free ≡ s .free
 unfolding liftEvent
 free-lift s h = free-with s (h .event .side) (popSide (side s (h .event .side)) (h .chain))
 
+-- an event that is the first of its chain gives its record back
 pub take-same : (s : State) (h : Head) → HeadOf s (some h) → Same s (takeEvent s h)
 unfolding takeEvent
 take-same s h g = λ w.
@@ -191,7 +206,8 @@ weigh-append : {A : Type 0} (w : ℕ → ℕ) (l m : List (Held A)) → weighLis
 weigh-append w [] m = omega arith
 weigh-append w (x ∷ l) m = omega (arith, weigh-append w l m)
 
-weigh-evict : (w : ℕ → ℕ) (n now : ℕ) (l : List (Held ℕ)) (f : List ℕ) → weighList w (evict n now l) + weighFree w (evicted n now l f) ≡ weighList w l + weighFree w f
+-- the stamps that go and their records
+pub weigh-evict : (w : ℕ → ℕ) (n now : ℕ) (l : List (Held ℕ)) (f : List ℕ) → weighList w (evict n now l) + weighFree w (evicted n now l f) ≡ weighList w l + weighFree w f
 weigh-evict w n now [] f = refl
 weigh-evict w n now (t ∷ l) f = go (ltb n (now - t .value)) (weigh-evict w n now l (t .place ∷ f))
   where
@@ -206,6 +222,7 @@ weigh-evict w n now (t ∷ l) f = go (ltb n (now - t .value)) (weigh-evict w n n
 abbrev pub freed : State → Side → ℕ → List ℕ
 freed s z now = evicted (s .settings .window) now (side s z .stamps) (s .free)
 
+-- where a record is free once the old stamps are given back
 pub stamp-same : (s : State) (z : Side) (now : ℕ) → 0 < length (freed s z now) → Same s (stamp s z now)
 unfolding stamp
 stamp-same s z now h = λ w.
