@@ -1,0 +1,20 @@
+-- `accept::records::aggregate_ok` meets its contract. Assumes nothing.
+use native.Mathlib.Omega.{arith}
+use Rattle.layout.proofs.Deciding.{fails, by-eqb}
+use Rattle.accept.proofs.records.aggregate_ok.Statement.{statement}
+use Rattle.accept.proofs.records.aggregate_ok.Tie as tie
+
+returns : tie.Need-returns
+returns c = fails (λ p. omega (arith, p .moments))
+
+returns-2 : tie.Need-returns-2
+returns-2 c = fails (λ p. omega (arith, p .spans))
+
+returns-3 : tie.Need-returns-3
+returns-3 c = fails (λ p. omega (arith, p .side))
+
+returns-4 : tie.Need-returns-4
+returns-4 c = by-eqb _ _ (λ e. omega arith) (λ p. p .rest)
+
+pub aggregate-ok-spec : {M : Type 1} → statement M
+aggregate-ok-spec = tie.close (tie.spec returns returns-2 returns-3 returns-4)

@@ -1,0 +1,9 @@
+pub mod Decides
+pub mod Header
+pub mod Records
+pub mod Accepted
+pub mod Layout
+pub mod Places
+pub mod Spare
+pub mod Opened
+pub mod Changes
