@@ -112,7 +112,7 @@ def rewrite(path, home, library, add):
             here = [p for p in places if module(p, crate) == mod]
             target = re.match(r'Rattle·([^·.]+)', mod).group(1)
             same = [p for p in places if p.split(os.sep)[1] == target]
-            pick = here or same
+            pick = here or same or places
             if len(pick) != 1: print(f'{path}: {plain}: {pick or "nowhere"}'); keep(mod, item); continue
             keep(module(pick[0], crate), item)
         else: keep(mod, item)

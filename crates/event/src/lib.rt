@@ -4,6 +4,7 @@
 ghost use mathlib.Core.Path.{_≡_};
 ghost use lib.Dec.{leb};
 ghost use Rattle.event.specs.HandedIn.{hasMachineNo, isActionNo};
+
 pub mod answer;
 
 use moment::Length;

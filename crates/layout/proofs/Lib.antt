@@ -25,3 +25,9 @@ pub mod Holds
 pub mod Tables
 pub mod Opened
 pub mod Theorems
+pub mod ShapeChains
+pub mod Shapes
+pub mod ShapeMoves
+pub mod Stores
+pub mod ActionStores
+pub mod ActionWords

@@ -7,3 +7,4 @@ pub mod Places
 pub mod Spare
 pub mod Opened
 pub mod Changes
+pub mod Shape

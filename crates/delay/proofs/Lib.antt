@@ -1,0 +1,3 @@
+pub mod Packets
+pub mod Judged
+pub mod Rules

@@ -1,0 +1,11 @@
+pub mod Sides
+pub mod LentLaws
+pub mod Changing
+pub mod Taking
+pub mod States
+pub mod Queueing
+pub mod Pushing
+pub mod Stamping
+pub mod HeadsChains
+pub mod HeadsOrder
+pub mod HeadsSides

@@ -1,0 +1,106 @@
+-- The code's heads as the rules' own, and what is known of a head that was found. Assumes nothing.
+use Prim.Native.Nat.{ℕ, _+_, _*_, _<_, _≤_}
+use mathlib.Core.Path.{_≡_}
+use mathlib.Core.Bool.{Bool}
+use mathlib.Core.List.{List}
+use mathlib.Core.Logic.{_⊎_}
+use mathlib.Core.Option.{Option, none, some}
+use lib.Dec.{eqb}
+use Rattle.rules.specs.Basics.{if_then_else_}
+use Rattle.rules.specs.State.{Event, Chain, base, blocking, bypassable, internal, SideState, side}
+use Rattle.rules.specs.Limits.{momentLimit}
+use Rattle.rules.specs.ChoiceHeads.{firstBy, Head as RulesHead}
+use Rattle.event.specs.declared.SimEvent.{SimEvent}
+use Rattle.event.specs.HandedIn.{sideOf}
+use Rattle.queue_event.specs.Words.{In}
+use Rattle.queue_event.specs.Chain.{recAt}
+use Rattle.queue_event.specs.Values.{readEvent}
+use Rattle.layout.specs.Records.{headOf, countOf}
+use Rattle.layout.specs.Layout.{kindAt, stateFrom}
+use Rattle.layout.specs.Changes.{sideNo}
+use Rattle.queue.specs.declared.peek.Head.{Head}
+use Rattle.queue.specs.declared.peek.Found.{Found}
+use Rattle.queue.specs.declared.peek.Found.the-variants.{Nothing, At}
+
+-- ---- decoding
+
+-- `SimEvent`: its kind is that of its number
+abbrev pub eventOf : SimEvent → Event
+eventOf e =
+    record {
+      kind = kindAt (e .kind .0);
+      moment = e .moment .0;
+      delay = e .delay .0;
+      side = sideOf (e .client);
+      padding = e .padding;
+      bypass = e .bypass;
+      replace = e .replace;
+      machine = e .machine;
+    }
+
+-- docs/LAYOUT.md, "Chains": the event chains of a side, as the client's are numbered
+abbrev pub chainAt : ℕ → Chain
+chainAt n = if eqb n 1 then base else if eqb n 2 then blocking else if eqb n 3 then bypassable else internal
+
+-- `Head`
+unfoldable pub headFrom : Head → RulesHead
+headFrom x = record { chain = chainAt (x .chain); place = x .place; event = eventOf (x .event); moment = x .moment .0 }
+
+-- `Found`
+unfoldable pub foundOf : Found → Option RulesHead
+foundOf Nothing = none
+foundOf (At x) = some (headFrom x)
+
+-- the client's part of the state held, or the server's
+abbrev pub sideHeld : List ℕ → List ℕ → Bool → SideState
+sideHeld h rs client = side (stateFrom h rs) (sideOf client)
+
+-- ---- what is known of a head
+
+-- the number of a side's chain, from 1 to 4 as the client's are numbered
+abbrev pub numberOf : ℕ → Bool → ℕ
+numberOf chain client = chain + 5 * sideNo (sideOf client)
+
+-- the head of a chain of the side, which is not empty; its moment may have the side's sum added
+pub record HeadOk (h rs : List ℕ) (client : Bool) (x : Head) : Type 0 where
+  pub low : 1 ≤ x .chain
+  pub high : x .chain ≤ 4
+  pub some : 0 < countOf h (numberOf (x .chain) client)
+  pub first : x .place ≡ headOf h (numberOf (x .chain) client)
+  pub within : In rs (x .place)
+  pub event : x .event ≡ readEvent client (recAt rs (x .place))
+  pub side : x .event .client ≡ client
+  pub kind : x .event .kind .0 ≤ 9
+  pub raw : x .event .moment .0 ≤ momentLimit
+  pub moment : x .moment .0 ≤ momentLimit + momentLimit
+
+-- of what was found on a side, and on either
+unfoldable pub Stands : List ℕ → List ℕ → Bool → Found → Type 0
+Stands h rs client Nothing = Unit {0}
+Stands h rs client (At x) = HeadOk h rs client x
+
+unfoldable pub StandsOn : List ℕ → List ℕ → Found → Type 0
+StandsOn h rs Nothing = Unit {0}
+StandsOn h rs (At x) = HeadOk h rs (x .event .client) x
+
+-- the kind of what was found is one of the ten
+unfoldable pub Known : Found → Type 0
+Known Nothing = Unit {0}
+Known (At x) = x .event .kind .0 ≤ 9
+
+-- ---- promises
+
+-- of a reading of a side's queues: the rules' head, which stands there
+pub record Peeked (h rs : List ℕ) (client : Bool) (f : Found) (o : Option RulesHead) : Type 0 where
+  pub is : foundOf f ≡ o
+  pub stands : Stands h rs client f
+
+-- of a reading of both sides' queues
+pub record PeekedBoth (h rs : List ℕ) (f : Found) (o : Option RulesHead) : Type 0 where
+  pub is : foundOf f ≡ o
+  pub stands : StandsOn h rs f
+
+-- of a choice between two: the rules' first of them, and one of the two
+pub record Chosen (lt : RulesHead → RulesHead → Bool) (a b r : Found) : Type 0 where
+  pub is : foundOf r ≡ firstBy lt (foundOf a) (foundOf b)
+  pub one : (r ≡ a) ⊎ (r ≡ b)

@@ -1,0 +1,5 @@
+pub mod Changes
+pub mod Lent
+pub mod Pushes
+pub mod Stamps
+pub mod Heads

@@ -1,0 +1,222 @@
+// The heads of the queues, as queue_event.rs and queue.rs find them.
+ghost use mathlib.Core.Path.{_≡_};
+ghost use Prim.Native.Nat.{_≤_};
+ghost use lib.ListN.{length};
+ghost use Rattle.rules.specs.Basics.{before as beforeOf};
+ghost use Rattle.rules.specs.State.{queue};
+ghost use Rattle.rules.specs.Limits.{momentLimit};
+ghost use Rattle.rules.specs.ChoiceHeads.{headAs, byMoment, byRawMoment, byDelay, firstBy, bypassableHead, blockingHead, baseHead};
+ghost use Rattle.rules.specs.ChoiceHeads.{sideHead, queueHead, waitingHead, passingHead};
+ghost use Rattle.layout.specs.Accepted.{Good};
+ghost use Rattle.layout.specs.Layout.{stateFrom};
+ghost use Rattle.queue.specs.Heads.{chainAt, headFrom, sideHeld, Known, Peeked, PeekedBoth, Chosen};
+use crate::header;
+use event::SimEvent;
+use moment::Length;
+use moment::Moment;
+use queue_event::read;
+
+// The head of a chain: which of its side's chains, its record, its event, and its moment as the choice sees it.
+pub struct Head {
+    pub chain: u64,
+    pub place: u64,
+    pub event: SimEvent,
+    pub moment: Moment,
+}
+
+pub enum Found {
+    Nothing,
+    At(Head),
+}
+
+// The head of a side's chain, with a length added to its moment.
+fn head_of(head: &[u64], rest: &[u64], chain: u64, client: bool, plus: Length) -> Found
+    requires { ⌜ length (now head) ≡ 256 ⌝ ∗ ⌜ Good (now head) (now rest) ⌝ }
+    requires { ⌜ 1 ≤ chain ⌝ ∗ ⌜ chain ≤ 4 ⌝ ∗ ⌜ plus .0 ≤ momentLimit ⌝ }
+    ensures { λ r. ⌜ Peeked (now (head .entry)) (now (rest .entry)) client r (headAs (chainAt chain) (plus .0) (queue (sideHeld (now (head .entry)) (now (rest .entry)) client .queues) (chainAt chain))) ⌝ }
+{
+    let k = header::chain(chain, client);
+    let count = header::count(head, k);
+    if count == 0 {
+        return Found::Nothing;
+    }
+    let place = header::first(head, k);
+    let event = read::event_at(rest, place, client);
+    let moment = event.moment.plus(plus);
+    Found::At(Head {
+        chain,
+        place,
+        event,
+        moment,
+    })
+}
+
+fn plain_head(head: &[u64], rest: &[u64], chain: u64, client: bool) -> Found
+    requires { ⌜ length (now head) ≡ 256 ⌝ ∗ ⌜ Good (now head) (now rest) ⌝ }
+    requires { ⌜ 1 ≤ chain ⌝ ∗ ⌜ chain ≤ 4 ⌝ }
+    ensures { λ r. ⌜ Peeked (now (head .entry)) (now (rest .entry)) client r (headAs (chainAt chain) 0 (queue (sideHeld (now (head .entry)) (now (rest .entry)) client .queues) (chainAt chain))) ⌝ }
+{
+    head_of(head, rest, chain, client, Length(0))
+}
+
+// The base head is later by its side's sum.
+fn base_head(head: &[u64], rest: &[u64], client: bool) -> Found
+    requires { ⌜ length (now head) ≡ 256 ⌝ ∗ ⌜ Good (now head) (now rest) ⌝ }
+    ensures { λ r. ⌜ Peeked (now (head .entry)) (now (rest .entry)) client r (baseHead (sideHeld (now (head .entry)) (now (rest .entry)) client)) ⌝ }
+{
+    let sum = header::of_side(head, header::SUM, client);
+    head_of(head, rest, header::BASE, client, Length(sum))
+}
+
+// The pair (ma, ra) of moment and rank is strictly before (mb, rb).
+fn before(ma: u64, ra: u64, mb: u64, rb: u64) -> bool
+    ensures { λ r. ⌜ r ≡ beforeOf ma ra mb rb ⌝ }
+{
+    if ma < mb {
+        return true;
+    }
+    if mb < ma {
+        return false;
+    }
+    ra < rb
+}
+
+// By moment, sums added, then rank.
+fn earlier(a: Head, b: Head) -> bool
+    requires { ⌜ a .event .kind .0 ≤ 9 ⌝ ∗ ⌜ b .event .kind .0 ≤ 9 ⌝ }
+    ensures { λ r. ⌜ r ≡ byMoment (headFrom a) (headFrom b) ⌝ }
+{
+    before(a.moment.0, a.event.kind.0, b.moment.0, b.event.kind.0)
+}
+
+// By the moment as it was queued, then rank.
+fn earlier_raw(a: Head, b: Head) -> bool
+    requires { ⌜ a .event .kind .0 ≤ 9 ⌝ ∗ ⌜ b .event .kind .0 ≤ 9 ⌝ }
+    ensures { λ r. ⌜ r ≡ byRawMoment (headFrom a) (headFrom b) ⌝ }
+{
+    before(
+        a.event.moment.0,
+        a.event.kind.0,
+        b.event.moment.0,
+        b.event.kind.0,
+    )
+}
+
+// By the delay from the time, then rank.
+fn sooner(a: Head, b: Head, time: Moment) -> bool
+    requires { ⌜ a .event .kind .0 ≤ 9 ⌝ ∗ ⌜ b .event .kind .0 ≤ 9 ⌝ }
+    ensures { λ r. ⌜ r ≡ byDelay (time .0) (headFrom a) (headFrom b) ⌝ }
+{
+    let x = a.moment.since(time);
+    let y = b.moment.since(time);
+    before(x.0, a.event.kind.0, y.0, b.event.kind.0)
+}
+
+// The first of two heads, unless the second is strictly earlier.
+fn first_of(a: Found, b: Found) -> Found
+    requires { ⌜ Known a ⌝ ∗ ⌜ Known b ⌝ }
+    ensures { λ r. ⌜ Chosen byMoment a b r ⌝ }
+{
+    let Found::At(x) = a else {
+        return b;
+    };
+    let Found::At(y) = b else {
+        return a;
+    };
+    if earlier(y, x) {
+        return b;
+    }
+    a
+}
+
+// The same by the moment as it was queued.
+fn first_raw(a: Found, b: Found) -> Found
+    requires { ⌜ Known a ⌝ ∗ ⌜ Known b ⌝ }
+    ensures { λ r. ⌜ Chosen byRawMoment a b r ⌝ }
+{
+    let Found::At(x) = a else {
+        return b;
+    };
+    let Found::At(y) = b else {
+        return a;
+    };
+    if earlier_raw(y, x) {
+        return b;
+    }
+    a
+}
+
+// The same by the delay from the time.
+fn sooner_of(a: Found, b: Found, time: Moment) -> Found
+    requires { ⌜ Known a ⌝ ∗ ⌜ Known b ⌝ }
+    ensures { λ r. ⌜ Chosen (byDelay (time .0)) a b r ⌝ }
+{
+    let Found::At(x) = a else {
+        return b;
+    };
+    let Found::At(y) = b else {
+        return a;
+    };
+    if sooner(y, x, time) {
+        return b;
+    }
+    a
+}
+
+// The first packet of both queues.
+fn packet_head(head: &[u64], rest: &[u64], client: bool) -> Found
+    requires { ⌜ length (now head) ≡ 256 ⌝ ∗ ⌜ Good (now head) (now rest) ⌝ }
+    ensures { λ r. ⌜ Peeked (now (head .entry)) (now (rest .entry)) client r (firstBy byMoment (bypassableHead (sideHeld (now (head .entry)) (now (rest .entry)) client)) (blockingHead (sideHeld (now (head .entry)) (now (rest .entry)) client))) ⌝ }
+{
+    let bypassable = plain_head(head, rest, header::BYPASSABLE_QUEUE, client);
+    let blocking = plain_head(head, rest, header::BLOCKING, client);
+    first_of(bypassable, blocking)
+}
+
+// `EventQueue::peek`: base, unless the first of the others is strictly earlier.
+pub fn peek_side(head: &[u64], rest: &[u64], client: bool) -> Found
+    requires { ⌜ length (now head) ≡ 256 ⌝ ∗ ⌜ Good (now head) (now rest) ⌝ }
+    ensures { λ r. ⌜ Peeked (now (head .entry)) (now (rest .entry)) client r (sideHead (sideHeld (now (head .entry)) (now (rest .entry)) client)) ⌝ }
+{
+    let packet = packet_head(head, rest, client);
+    let internal = plain_head(head, rest, header::INTERNAL, client);
+    let others = first_of(packet, internal);
+    let base = base_head(head, rest, client);
+    first_of(base, others)
+}
+
+// `SimQueue::peek`: the client's on a tie in delay and rank.
+pub fn peek(head: &[u64], rest: &[u64], time: Moment) -> Found
+    requires { ⌜ length (now head) ≡ 256 ⌝ ∗ ⌜ Good (now head) (now rest) ⌝ }
+    ensures { λ r. ⌜ PeekedBoth (now (head .entry)) (now (rest .entry)) r (queueHead (stateFrom (now (head .entry)) (now (rest .entry))) (time .0)) ⌝ }
+{
+    let client = peek_side(head, rest, true);
+    let server = peek_side(head, rest, false);
+    sooner_of(client, server, time)
+}
+
+// `peek_blocking`: the first waiting packet; behind a bypassable block the bypassable queue does not wait.
+pub fn peek_blocking(head: &[u64], rest: &[u64], bypassable: bool, client: bool) -> Found
+    requires { ⌜ length (now head) ≡ 256 ⌝ ∗ ⌜ Good (now head) (now rest) ⌝ }
+    ensures { λ r. ⌜ Peeked (now (head .entry)) (now (rest .entry)) client r (waitingHead bypassable (sideHeld (now (head .entry)) (now (rest .entry)) client)) ⌝ }
+{
+    if bypassable {
+        return plain_head(head, rest, header::BLOCKING, client);
+    }
+    packet_head(head, rest, client)
+}
+
+// `peek_non_blocking`: what a block does not hold back; bypassable is weighed against base by the raw moment.
+pub fn peek_non_blocking(head: &[u64], rest: &[u64], bypassable: bool, client: bool) -> Found
+    requires { ⌜ length (now head) ≡ 256 ⌝ ∗ ⌜ Good (now head) (now rest) ⌝ }
+    ensures { λ r. ⌜ Peeked (now (head .entry)) (now (rest .entry)) client r (passingHead bypassable (sideHeld (now (head .entry)) (now (rest .entry)) client)) ⌝ }
+{
+    let base = base_head(head, rest, client);
+    let internal = plain_head(head, rest, header::INTERNAL, client);
+    let found = first_of(base, internal);
+    if bypassable {
+        let packet = plain_head(head, rest, header::BYPASSABLE_QUEUE, client);
+        return first_raw(found, packet);
+    }
+    found
+}

@@ -1,0 +1,7 @@
+pub mod DelayOrder
+pub mod SlotDelays
+pub mod BlockLaws
+pub mod QueueLaws
+pub mod OfferedLaws
+pub mod FiveLaws
+pub mod DelayBounds

@@ -1,0 +1,12 @@
+use Rattle.queue_peek.proofs.FiveLaws.{none-filled}
+use Rattle.queue_peek.proofs.five.Delays.none.Statement.{statement}
+use Rattle.queue_peek.proofs.five.Delays.none.Tie as tie
+use Rattle.queue_peek.proofs.five.Delays.none.Reads as reads
+use Rattle.queue_peek.proofs.five.Delays.none.Lts as lts
+
+-- src/five.rt:33:5
+returns : tie.Need-returns
+returns c = none-filled
+
+pub none-spec : {M : Type 1} → statement M
+none-spec = tie.close (tie.spec returns)
