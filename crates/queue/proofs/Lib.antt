@@ -9,3 +9,4 @@ pub mod Stamping
 pub mod HeadsChains
 pub mod HeadsOrder
 pub mod HeadsSides
+pub mod Sizes
