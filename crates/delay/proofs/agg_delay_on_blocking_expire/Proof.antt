@@ -1,5 +1,5 @@
-use Rattle.delay.proofs.Judged.{expire-level, expire-near, expire-by}
 use borrow.Author.Needs.{needs}
+use Rattle.delay.proofs.Judged.{expire-level, expire-near, expire-by}
 use Rattle.delay.proofs.agg_delay_on_blocking_expire.Statement.{statement}
 use Rattle.delay.proofs.agg_delay_on_blocking_expire.Tie as tie
 use Rattle.delay.proofs.agg_delay_on_blocking_expire.Reads as reads

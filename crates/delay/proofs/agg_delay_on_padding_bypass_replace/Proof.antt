@@ -1,5 +1,5 @@
-use Rattle.delay.proofs.Judged.{replace-adjacent, replace-near, replace-by}
 use borrow.Author.Needs.{needs}
+use Rattle.delay.proofs.Judged.{replace-adjacent, replace-near, replace-by}
 use Rattle.delay.proofs.agg_delay_on_padding_bypass_replace.Statement.{statement}
 use Rattle.delay.proofs.agg_delay_on_padding_bypass_replace.Tie as tie
 use Rattle.delay.proofs.agg_delay_on_padding_bypass_replace.Reads as reads

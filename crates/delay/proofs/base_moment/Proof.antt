@@ -1,5 +1,5 @@
-use Rattle.delay.proofs.Packets.{head-there, base-none, base-some, base-fits}
 use borrow.Author.Needs.{needs}
+use Rattle.delay.proofs.Packets.{head-there, base-none, base-some, base-fits}
 use Rattle.delay.proofs.base_moment.Statement.{statement}
 use Rattle.delay.proofs.base_moment.Tie as tie
 use Rattle.delay.proofs.base_moment.Reads as reads

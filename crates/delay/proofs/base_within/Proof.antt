@@ -1,5 +1,5 @@
-use Rattle.delay.proofs.Judged.{within-at}
 use borrow.Author.Needs.{needs}
+use Rattle.delay.proofs.Judged.{within-at}
 use Rattle.delay.proofs.base_within.Statement.{statement}
 use Rattle.delay.proofs.base_within.Tie as tie
 use Rattle.delay.proofs.base_within.Reads as reads

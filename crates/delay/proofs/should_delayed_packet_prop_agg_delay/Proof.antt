@@ -1,5 +1,5 @@
-use Rattle.delay.proofs.Judged.{delayed-adjacent, delayed-near, delayed-yes}
 use borrow.Author.Needs.{needs}
+use Rattle.delay.proofs.Judged.{delayed-adjacent, delayed-near, delayed-yes}
 use Rattle.delay.proofs.should_delayed_packet_prop_agg_delay.Statement.{statement}
 use Rattle.delay.proofs.should_delayed_packet_prop_agg_delay.Tie as tie
 use Rattle.delay.proofs.should_delayed_packet_prop_agg_delay.Reads as reads

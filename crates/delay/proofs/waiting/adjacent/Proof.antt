@@ -1,5 +1,5 @@
-use Rattle.delay.proofs.Packets.{adjacent-first, adjacent-second}
 use borrow.Author.Needs.{needs}
+use Rattle.delay.proofs.Packets.{adjacent-first, adjacent-second}
 use Rattle.delay.proofs.waiting.adjacent.Statement.{statement}
 use Rattle.delay.proofs.waiting.adjacent.Tie as tie
 use Rattle.delay.proofs.waiting.adjacent.Reads as reads

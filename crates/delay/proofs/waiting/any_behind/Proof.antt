@@ -1,5 +1,5 @@
-use Rattle.delay.proofs.Packets.{rest-linked, head-there, any-rest, any-empty}
 use borrow.Author.Needs.{needs}
+use Rattle.delay.proofs.Packets.{rest-linked, head-there, any-rest, any-empty}
 use Rattle.delay.proofs.waiting.any_behind.Statement.{statement}
 use Rattle.delay.proofs.waiting.any_behind.Tie as tie
 use Rattle.delay.proofs.waiting.any_behind.Reads as reads

@@ -1,5 +1,5 @@
-use Rattle.delay.proofs.Packets.{chain-linked, any-held}
 use borrow.Author.Needs.{needs}
+use Rattle.delay.proofs.Packets.{chain-linked, any-held}
 use Rattle.delay.proofs.waiting.any_in.Statement.{statement}
 use Rattle.delay.proofs.waiting.any_in.Tie as tie
 use Rattle.delay.proofs.waiting.any_in.Reads as reads

@@ -1,5 +1,5 @@
-use Rattle.delay.proofs.Packets.{behind-first, behind-second, before-first, before-second}
 use borrow.Author.Needs.{needs}
+use Rattle.delay.proofs.Packets.{behind-first, behind-second, before-first, before-second}
 use Rattle.delay.proofs.waiting.beside.Statement.{statement}
 use Rattle.delay.proofs.waiting.beside.Tie as tie
 use Rattle.delay.proofs.waiting.beside.Reads as reads

@@ -1,5 +1,7 @@
-use Rattle.delay.proofs.Packets.{counts-fit, tail-few, tail-found}
+use native.Mathlib.Omega.{arith}
 use borrow.Author.Needs.{needs}
+use Rattle.event.specs.HandedIn.{sideOf}
+use Rattle.delay.proofs.Packets.{counts-fit, tail-few, tail-found}
 use Rattle.delay.proofs.waiting.burst_tail.Statement.{statement}
 use Rattle.delay.proofs.waiting.burst_tail.Tie as tie
 use Rattle.delay.proofs.waiting.burst_tail.Reads as reads
@@ -30,7 +32,7 @@ add-packets c = search counts-fit
 
 -- src/waiting.rt:92:9
 returns : tie.Need-returns
-returns c = search tail-few
+returns c = tail-few (c .before .before .before .before .before .before .before .args .head .now) (c .before .before .before .before .before .before .before .args .rest .now) (sideOf (c .before .before .before .before .before .before .before .args .client)) _ _ _ _ (c .before .before .before .before .chain .ensures .0) (c .before .before .before .before .chain .ensures .1) (c .before .before .before .chain2 .ensures .0) (c .before .before .before .chain2 .ensures .1) (c .before .before .count .ensures) (c .before .count2 .ensures) _ _ (omega arith)
 
 -- src/waiting.rt:94:9
 latest-in-requires : tie.Need-latest-in-requires

@@ -1,5 +1,5 @@
-use Rattle.delay.proofs.Packets.{chain-linked, latest-held}
 use borrow.Author.Needs.{needs}
+use Rattle.delay.proofs.Packets.{chain-linked, latest-held}
 use Rattle.delay.proofs.waiting.latest_in.Statement.{statement}
 use Rattle.delay.proofs.waiting.latest_in.Tie as tie
 use Rattle.delay.proofs.waiting.latest_in.Reads as reads
