@@ -1,0 +1,8 @@
+pub mod SlotLaws
+pub mod PlannedLaws
+pub mod AheadLaws
+pub mod PickLaws
+pub mod OrderLaws
+pub mod TwoLaws
+pub mod SumLaws
+pub mod ActionSums

@@ -1,0 +1,184 @@
+-- The slots of a side looked through for a moment: each slot's words, the lowest machine, the client first. Assumes nothing.
+use Prim.Native.Nat.{ℕ, zero, suc, _+_, _-_, _*_, _<_, _≤_}
+use mathlib.Core.Path.{_≡_, refl, sym, ap, ap₂, _∙_}
+use mathlib.Core.Bool.{Bool, true, false}
+use mathlib.Core.List.{List, _∷_, map}
+use mathlib.Core.Option.{Option, none, some, Option·map}
+use native.Mathlib.Omega.{arith}
+use native.Mathlib.Decide.{ℕ-discrete}
+use lib.Dec.{eqb, ltb}
+use lib.ListN.{getD}
+use borrow.Author.Tests.{lt-ltb, le-ltb}
+use Rattle.rules.specs.Basics.{if_then_else_, client, server}
+use Rattle.rules.specs.State.{Action}
+use Rattle.rules.specs.ChoiceDelays.{actionMoments}
+use Rattle.rules.specs.ChoiceRound.{slotAt, slotOf}
+use Rattle.event.specs.HandedIn.{sideOf}
+use Rattle.layout.specs.Changes.{sideNo}
+use Rattle.layout.specs.Layout.{lessOne, actionFrom, bank, firsts, stateFrom}
+use Rattle.queue.specs.Heads.{sideHeld}
+use Rattle.moment.specs.declared.Moment.{Moment}
+use Rattle.layout.proofs.Banks.{bank-at}
+use Rattle.candidate.specs.Promises.{hasMoment, timerIn, plannedIn, momentIn, Missed, machineOf, DueTimer, DueAction}
+
+-- ---- the words of a slot
+
+pub side-small : (b : Bool) → sideNo (sideOf b) ≤ 1
+side-small true = omega arith
+side-small false = omega arith
+
+module _ (h : List ℕ) (b : Bool) (m at : ℕ) (l : m < 16) where
+  pub timer-word : at ≡ 64 + (16 * sideNo (sideOf b) + m) → lessOne (getD h at 0) ≡ timerIn h b m
+  unfolding timerIn
+  timer-word e = ap lessOne (ap (λ i. getD h i 0) e ∙ sym (bank-at 64 32 h (16 * sideNo (sideOf b) + m) (omega (arith, side-small b))))
+
+  pub action-words : at ≡ 96 + 3 * (16 * sideNo (sideOf b) + m) → actionFrom (getD h at 0) (getD h (at + 1) 0) (getD h (at + 2) 0) ≡ plannedIn h b m
+  unfolding plannedIn
+  action-words e = λ d. actionFrom (first d) (second d) (third d)
+    where
+      first : getD h at 0 ≡ bank 96 96 h (3 * (16 * sideNo (sideOf b) + m))
+      first = ap (λ i. getD h i 0) e ∙ sym (bank-at 96 96 h (3 * (16 * sideNo (sideOf b) + m)) (omega (arith, side-small b)))
+
+      second : getD h (at + 1) 0 ≡ bank 96 96 h (1 + 3 * (16 * sideNo (sideOf b) + m))
+      second = ap (λ i. getD h i 0) (omega arith) ∙ sym (bank-at 96 96 h (1 + 3 * (16 * sideNo (sideOf b) + m)) (omega (arith, side-small b)))
+
+      third : getD h (at + 2) 0 ≡ bank 96 96 h (2 + 3 * (16 * sideNo (sideOf b) + m))
+      third = ap (λ i. getD h i 0) (omega arith) ∙ sym (bank-at 96 96 h (2 + 3 * (16 * sideNo (sideOf b) + m)) (omega (arith, side-small b)))
+
+-- ---- whether a slot has the moment
+
+word-none : (t w : ℕ) → w ≡ 0 → false ≡ hasMoment t (lessOne w)
+word-none t w e = sym (ap (λ i. hasMoment t (lessOne i)) e)
+
+word-some : (t w : ℕ) → (w ≡ 0 → ⊥) → eqb (w - 1) t ≡ hasMoment t (lessOne w)
+word-some t zero d = absurd (d refl)
+word-some t (suc n) d = let x : suc n - 1 ≡ n = omega arith in ap (λ i. eqb i t) x
+
+words-none : (t w m d : ℕ) → w ≡ 0 → false ≡ hasMoment t (Option·map (λ (a : Action). a .moment) (actionFrom w m d))
+unfolding actionFrom
+words-none t w m d e = sym (ap (λ i. hasMoment t (Option·map (λ (a : Action). a .moment) (actionFrom i m d))) e)
+
+words-some : (t w m d : ℕ) → (w ≡ 0 → ⊥) → eqb m t ≡ hasMoment t (Option·map (λ (a : Action). a .moment) (actionFrom w m d))
+unfolding actionFrom
+words-some t zero m d ne = absurd (ne refl)
+words-some t (suc n) m d ne = refl
+
+module _ (h : List ℕ) (b : Bool) (m at t : ℕ) (l : m < 16) where
+  module _ (e : at ≡ 64 + (16 * sideNo (sideOf b) + m)) where
+    pub timer-has-none : getD h at 0 ≡ 0 → false ≡ hasMoment t (timerIn h b m)
+    timer-has-none z = word-none t (getD h at 0) z ∙ ap (hasMoment t) (timer-word h b m at l e)
+
+    pub timer-has-some : (getD h at 0 ≡ 0 → ⊥) → eqb (getD h at 0 - 1) t ≡ hasMoment t (timerIn h b m)
+    timer-has-some d = word-some t (getD h at 0) d ∙ ap (hasMoment t) (timer-word h b m at l e)
+
+  module _ (e : at ≡ 96 + 3 * (16 * sideNo (sideOf b) + m)) where
+    moment-word : hasMoment t (Option·map (λ (a : Action). a .moment) (actionFrom (getD h at 0) (getD h (at + 1) 0) (getD h (at + 2) 0))) ≡ hasMoment t (momentIn h b m)
+    unfolding momentIn
+    moment-word = ap (λ o. hasMoment t (Option·map (λ (a : Action). a .moment) o)) (action-words h b m at l e)
+
+    pub action-has-none : getD h at 0 ≡ 0 → false ≡ hasMoment t (momentIn h b m)
+    action-has-none z = words-none t (getD h at 0) (getD h (at + 1) 0) (getD h (at + 2) 0) z ∙ moment-word
+
+    pub action-has-some : (getD h at 0 ≡ 0 → ⊥) → eqb (getD h (at + 1) 0) t ≡ hasMoment t (momentIn h b m)
+    action-has-some d = words-some t (getD h at 0) (getD h (at + 1) 0) (getD h (at + 2) 0) d ∙ moment-word
+
+-- ---- the lowest
+
+slot-step : (t : ℕ) (o : Option ℕ) (l : List (Option ℕ)) → hasMoment t o ≡ false → slotAt t (o ∷ l) ≡ Option·map suc (slotAt t l)
+slot-step t none l e = refl
+slot-step t (some u) l e = ap (λ (b : Bool). if b then some 0 else Option·map suc (slotAt t l)) e
+
+slot-here : (t : ℕ) (o : Option ℕ) (l : List (Option ℕ)) → hasMoment t o ≡ true → slotAt t (o ∷ l) ≡ some 0
+slot-here t none l e = let z : _≡_ {A = ℕ} 0 1 = cc in absurd (omega arith)
+slot-here t (some u) l e = ap (λ (b : Bool). if b then some 0 else Option·map suc (slotAt t l)) e
+
+slot-first : (n : ℕ) (f : ℕ → Option ℕ) (t m : ℕ) → m < n → ((i : ℕ) → i < m → hasMoment t (f i) ≡ false) → hasMoment t (f m) ≡ true → slotAt t (firsts n f) ≡ some m
+slot-first zero f t m l b e = absurd (omega arith)
+slot-first (suc n) f t zero l b e = slot-here t (f 0) (firsts n (λ i. f (suc i))) e
+slot-first (suc n) f t (suc m) l b e =
+    slot-step t (f 0) (firsts n (λ i. f (suc i))) (b 0 (omega arith))
+    ∙ ap (Option·map suc) (slot-first n (λ i. f (suc i)) t m (omega arith) (λ i k. b (suc i) (omega arith)) e)
+
+slot-none : (n : ℕ) (f : ℕ → Option ℕ) (t : ℕ) → ((i : ℕ) → i < n → hasMoment t (f i) ≡ false) → slotAt t (firsts n f) ≡ none
+slot-none zero f t b = refl
+slot-none (suc n) f t b =
+    slot-step t (f 0) (firsts n (λ i. f (suc i))) (b 0 (omega arith)) ∙ ap (Option·map suc) (slot-none n (λ i. f (suc i)) t (λ i k. b (suc i) (omega arith)))
+
+pub missed-start : (f : ℕ → Option ℕ) (t : ℕ) → Missed f t 0
+missed-start f t = record { below = λ i l. absurd (omega arith) }
+
+missed-turn : (f : ℕ → Option ℕ) (t m : ℕ) (r : Bool) → Missed f t m → r ≡ hasMoment t (f m) → r ≡ false → Missed f t (m + 1)
+missed-turn f t m r p e z = record { below = λ i l. go i l (ℕ-discrete i m) }
+  where
+    go : (i : ℕ) → i < m + 1 → Dec (i ≡ m) → hasMoment t (f i) ≡ false
+    go i l (yes q) = ap (λ j. hasMoment t (f j)) q ∙ sym e ∙ z
+    go i l (no q) = p .below i (omega (arith, q))
+
+map-firsts : {A B : Type 0} (g : A → B) (n : ℕ) (f : ℕ → A) → map g (firsts n f) ≡ firsts n (λ i. g (f i))
+map-firsts g zero f = refl
+map-firsts g (suc n) f = ap (λ l. g (f 0) ∷ l) (map-firsts g n (λ i. f (suc i)))
+
+pub timers-are : (h rs : List ℕ) (b : Bool) → sideHeld h rs b .timers ≡ firsts 16 (timerIn h b)
+unfolding stateFrom timerIn
+timers-are h rs true = refl
+timers-are h rs false = refl
+
+pub actions-are : (h rs : List ℕ) (b : Bool) → sideHeld h rs b .actions ≡ firsts 16 (plannedIn h b)
+unfolding stateFrom plannedIn
+actions-are h rs true = refl
+actions-are h rs false = refl
+
+pub moments-are : (h rs : List ℕ) (b : Bool) → actionMoments (sideHeld h rs b) ≡ firsts 16 (momentIn h b)
+unfolding momentIn
+moments-are h rs b = ap (map (Option·map (λ (a : Action). a .moment))) (actions-are h rs b) ∙ map-firsts (Option·map (λ (a : Action). a .moment)) 16 (plannedIn h b)
+
+machine-is : (m : ℕ) → m < 16 → machineOf m ≡ some m
+machine-is m l = rw (lt-ltb m 16 l)
+
+module _ (h : List ℕ) (b : Bool) (t m : ℕ) where
+  pub timer-next : (r : Bool) → Missed (timerIn h b) t m → r ≡ hasMoment t (timerIn h b m) → r ≡ false → Missed (timerIn h b) t (m + 1)
+  timer-next r p e z = missed-turn (timerIn h b) t m r p e z
+
+  pub action-next : (r : Bool) → Missed (momentIn h b) t m → r ≡ hasMoment t (momentIn h b m) → r ≡ false → Missed (momentIn h b) t (m + 1)
+  action-next r p e z = missed-turn (momentIn h b) t m r p e z
+
+  module _ (r : Bool) (l : m < 16) (z : r ≡ true) where
+    pub timer-found : Missed (timerIn h b) t m → r ≡ hasMoment t (timerIn h b m) → (rs : List ℕ) → machineOf m ≡ slotAt t (sideHeld h rs b .timers)
+    timer-found p e rs = machine-is m l ∙ sym (ap (slotAt t) (timers-are h rs b) ∙ slot-first 16 (timerIn h b) t m l (p .below) (sym e ∙ z))
+
+    pub action-found : Missed (momentIn h b) t m → r ≡ hasMoment t (momentIn h b m) → (rs : List ℕ) → machineOf m ≡ slotAt t (actionMoments (sideHeld h rs b))
+    action-found p e rs = machine-is m l ∙ sym (ap (slotAt t) (moments-are h rs b) ∙ slot-first 16 (momentIn h b) t m l (p .below) (sym e ∙ z))
+
+  module _ (l : 16 ≤ m) where
+    pub timer-nowhere : Missed (timerIn h b) t m → (rs : List ℕ) → none ≡ slotAt t (sideHeld h rs b .timers)
+    timer-nowhere p rs = sym (ap (slotAt t) (timers-are h rs b) ∙ slot-none 16 (timerIn h b) t (λ i k. p .below i (omega arith)))
+
+    pub action-nowhere : Missed (momentIn h b) t m → (rs : List ℕ) → none ≡ slotAt t (actionMoments (sideHeld h rs b))
+    action-nowhere p rs = sym (ap (slotAt t) (moments-are h rs b) ∙ slot-none 16 (momentIn h b) t (λ i k. p .below i (omega arith)))
+
+-- ---- the client first
+
+slot-client : (m : ℕ) (o p : Option ℕ) → m < 16 → machineOf m ≡ o → (if ltb m 16 then some (record { side = client; machine = m }) else none) ≡ slotOf o p
+slot-client m o p l e = rw (lt-ltb m 16 l) (ap (λ x. slotOf x p) (sym (machine-is m l) ∙ e))
+
+slot-server : (m n : ℕ) (o p : Option ℕ) → 16 ≤ m → machineOf m ≡ o → machineOf n ≡ p → (if ltb n 16 then some (record { side = server; machine = n }) else none) ≡ slotOf o p
+slot-server m n o p l e q = go (ltb n 16) ∙ ap₂ slotOf (sym (ap (λ (x : Bool). if x then some m else none) (le-ltb m 16 l)) ∙ e) q
+  where
+    go : (x : Bool) → (if x then some (record { side = server; machine = n }) else none) ≡ slotOf none (if x then some n else none)
+    go true = refl
+    go false = refl
+
+module _ (h : List ℕ) (t : Moment) (m : ℕ) where
+  module _ (e : (rs : List ℕ) → machineOf m ≡ slotAt (t .0) (sideHeld h rs true .timers)) where
+    pub timer-client : m < 16 → DueTimer h (t .0) (record { client = true; machine = m; moment = t })
+    timer-client l = record { when = refl; is = λ rs. slot-client m _ _ l (e rs) }
+
+    pub timer-server : (n : ℕ) → 16 ≤ m → ((rs : List ℕ) → machineOf n ≡ slotAt (t .0) (sideHeld h rs false .timers)) → DueTimer h (t .0) (record { client = false; machine = n; moment = t })
+    timer-server n l f = record { when = refl; is = λ rs. slot-server m n _ _ l (e rs) (f rs) }
+
+  module _ (e : (rs : List ℕ) → machineOf m ≡ slotAt (t .0) (actionMoments (sideHeld h rs true))) where
+    pub action-client : m < 16 → DueAction h (t .0) (record { client = true; machine = m; moment = t })
+    action-client l = record { when = refl; is = λ rs. slot-client m _ _ l (e rs) }
+
+    pub action-server : (n : ℕ) → 16 ≤ m → ((rs : List ℕ) → machineOf n ≡ slotAt (t .0) (actionMoments (sideHeld h rs false))) → DueAction h (t .0) (record { client = false; machine = n; moment = t })
+    action-server n l f = record { when = refl; is = λ rs. slot-server m n _ _ l (e rs) (f rs) }

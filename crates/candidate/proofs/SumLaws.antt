@@ -1,0 +1,198 @@
+-- The sums of a round held to the limit. Assumes nothing.
+use Prim.Native.Nat.{ℕ, max, _+_, _-_, _^_, _<_, _≤_}
+use mathlib.Core.Path.{_≡_, refl, sym, ap, ap₂, subst, _∙_}
+use mathlib.Core.Bool.{Bool, true, false, not, _&&_}
+use mathlib.Core.List.{List, [], _∷_}
+use mathlib.Core.Option.{none, some, Option·getD}
+use native.Mathlib.Omega.{arith}
+use lib.Dec.{leb, ltb}
+use lib.ListN.{getD}
+use borrow.Author.Tests.{not-true, not-false, le-leb, lt-leb, leb-true, leb-false}
+use Rattle.rules.specs.Basics.{if_then_else_}
+use Rattle.rules.specs.State.{Event, Held}
+use Rattle.rules.specs.Limits.{momentLimit, durationLimit}
+use Rattle.rules.specs.Aggregates.{baseMoment, onExpire, aggregatesOf}
+use Rattle.rules.specs.ChoiceHeads.{waitingHead}
+use Rattle.rules.specs.ChoiceRound.{fits, someSum, alwaysSums, candidateSums, raisedSum, heldUp, aBlock}
+use Rattle.moment.specs.declared.Moment.{Moment}
+use Rattle.event.specs.declared.AggregateDelay.{AggregateDelay}
+use Rattle.event.specs.HandedIn.{sideOf, aggregateIn}
+use Rattle.layout.specs.Header.{Limited}
+use Rattle.layout.specs.Accepted.{Good}
+use Rattle.layout.specs.Changes.{sideNo}
+use Rattle.layout.specs.Layout.{bank, stateFrom}
+use Rattle.queue.specs.declared.peek.Head.{Head}
+use Rattle.queue.specs.declared.peek.Found.{Found}
+use Rattle.queue.specs.declared.peek.Found.the-variants.{Nothing as NotFound, At as FoundAt}
+use Rattle.queue.specs.Heads.{foundOf, headFrom, sideHeld, Peeked}
+use Rattle.queue_peek.specs.declared.blocks.BlockEnd.{BlockEnd}
+use Rattle.queue_peek.specs.Decoded.{blockFrom}
+use Rattle.delay.specs.declared.Base.{Base}
+use Rattle.delay.specs.declared.Base.the-variants.{Nothing as NoBase, At}
+use Rattle.delay.specs.declared.Margins.{Margins}
+use Rattle.delay.specs.declared.Delayed.{Delayed}
+use Rattle.delay.specs.Tests.{baseOf, delayedOf, usualMargins, expireOver}
+use Rattle.queue.proofs.HeadsSides.{sum-held}
+use Rattle.queue_peek.proofs.BlockLaws.{end-small}
+use Rattle.delay.proofs.Rules.{expire-usual}
+use Rattle.candidate.specs.TwoDue.{moments}
+use Rattle.candidate.proofs.TwoLaws.{fits-append}
+
+and-one : (t : Bool) → t ≡ t && true
+and-one true = refl
+and-one false = refl
+
+and-none : (t : Bool) → t && false ≡ false
+and-none true = refl
+and-none false = refl
+
+-- ---- words within their limits
+
+pub sum-within : (h : List ℕ) (b : Bool) (w : ℕ) → Limited h → w ≡ getD h (10 + sideNo (sideOf b)) 0 → w ≤ momentLimit
+sum-within h true w l e = rw e (l 10 (omega arith))
+sum-within h false w l e = rw e (l 11 (omega arith))
+
+pub action-within : (h : List ℕ) (b : Bool) (w : ℕ) → Limited h → w ≡ getD h (4 + sideNo (sideOf b)) 0 → w ≤ durationLimit
+action-within h true w l e = rw e (l 4 (omega arith))
+action-within h false w l e = rw e (l 5 (omega arith))
+
+pub reporting-within : (h : List ℕ) (b : Bool) (w : ℕ) → Limited h → w ≡ getD h (6 + sideNo (sideOf b)) 0 → w ≤ durationLimit
+reporting-within h true w l e = rw e (l 6 (omega arith))
+reporting-within h false w l e = rw e (l 7 (omega arith))
+
+pub network-within : (h rs : List ℕ) → Good h rs → getD h 0 0 ≤ durationLimit
+network-within h rs g = g .limits 0 (omega arith)
+
+-- ---- the base head plus the sum
+
+no-base : (l : List (Held Event)) (m n : ℕ) → none ≡ baseMoment m l → none ≡ baseMoment n l
+no-base [] m n e = refl
+no-base (x ∷ l) m n e = let z : _≡_ {A = ℕ} 0 1 = cc in absurd (omega arith)
+
+module _ (h rs : List ℕ) (b : Bool) (sum : ℕ) (o : Base) (eo : baseOf o ≡ baseMoment sum (sideHeld h rs b .queues .base)) where
+  pub base-absent : o ≡ NoBase → true ≡ fits (someSum (baseMoment (sideHeld h rs b .sum) (sideHeld h rs b .queues .base)))
+  unfolding fits
+  base-absent e = ap (λ x. fits (someSum x)) (no-base (sideHeld h rs b .queues .base) sum (sideHeld h rs b .sum) (ap baseOf (sym e) ∙ eo))
+
+  pub base-present : (m : Moment) (r : Bool) → sum ≡ getD h (10 + sideNo (sideOf b)) 0 → o ≡ At m → r ≡ leb (m .0) momentLimit
+      → r ≡ fits (someSum (baseMoment (sideHeld h rs b .sum) (sideHeld h rs b .queues .base)))
+  unfolding fits
+  base-present m r es e er =
+      er ∙ and-one (leb (m .0) momentLimit)
+      ∙ ap (λ x. fits (someSum x)) (ap baseOf (sym e) ∙ eo ∙ ap (λ n. baseMoment n (sideHeld h rs b .queues .base)) (es ∙ sym (sum-held h rs (sideOf b))))
+
+-- ---- the sums of every round
+
+module _ (h rs : List ℕ) (limit : ℕ) (el : limit ≡ momentLimit) where
+  always-is : fits (alwaysSums (stateFrom h rs))
+      ≡ leb (getD h 17 0 + 1) momentLimit
+      && (fits (someSum (baseMoment (sideHeld h rs true .sum) (sideHeld h rs true .queues .base))) && fits (someSum (baseMoment (sideHeld h rs false .sum) (sideHeld h rs false .queues .base))))
+  unfolding alwaysSums fits stateFrom bank
+  always-is = ap (λ x. leb (getD h 17 0 + 1) momentLimit && x) (fits-append (someSum (baseMoment (sideHeld h rs true .sum) (sideHeld h rs true .queues .base))) (someSum (baseMoment (sideHeld h rs false .sum) (sideHeld h rs false .queues .base))))
+
+  pub always-full : limit ≤ getD h 17 0 → false ≡ fits (alwaysSums (stateFrom h rs))
+  always-full l = sym (always-is ∙ rw (lt-leb (getD h 17 0 + 1) momentLimit (omega arith)))
+
+  module _ (x : Bool) (ex : x ≡ fits (someSum (baseMoment (sideHeld h rs true .sum) (sideHeld h rs true .queues .base)))) where
+    pub always-client : not x ≡ true → false ≡ fits (alwaysSums (stateFrom h rs))
+    always-client f = sym (always-is ∙ rw (sym ex ∙ not-true x f) (and-none (leb (getD h 17 0 + 1) momentLimit)))
+
+    pub always-server : (y : Bool) → getD h 17 0 < limit → not x ≡ false → y ≡ fits (someSum (baseMoment (sideHeld h rs false .sum) (sideHeld h rs false .queues .base))) → y ≡ fits (alwaysSums (stateFrom h rs))
+    always-server y l f ey = ey ∙ sym (always-is ∙ rw (le-leb (getD h 17 0 + 1) momentLimit (omega arith), sym ex ∙ not-false x f))
+
+-- ---- the test at a block's end
+
+module _ (h rs : List ℕ) (b : Bool) (end : ℕ) (f : Found) (p : Peeked h rs b f (waitingHead false (sideHeld h rs b))) where
+  pub held-none : f ≡ NotFound → none ≡ heldUp (sideHeld h rs b) end (waitingHead false (sideHeld h rs b))
+  unfolding foundOf
+  held-none e = ap (heldUp (sideHeld h rs b) end) (ap foundOf (sym e) ∙ p .is)
+
+  module _ (w : Head) (r : Bool) (e : f ≡ FoundAt w) (er : r ≡ ltb (w .moment .0) end) where
+    held-is : (if r then onExpire (sideHeld h rs b) end (w .moment .0) else none) ≡ heldUp (sideHeld h rs b) end (waitingHead false (sideHeld h rs b))
+    unfolding foundOf headFrom
+    held-is = ap (λ (x : Bool). if x then onExpire (sideHeld h rs b) end (w .moment .0) else none) er ∙ ap (heldUp (sideHeld h rs b) end) (ap foundOf (sym e) ∙ p .is)
+
+    pub held-late : not r ≡ true → none ≡ heldUp (sideHeld h rs b) end (waitingHead false (sideHeld h rs b))
+    held-late t = sym (ap (λ (x : Bool). if x then onExpire (sideHeld h rs b) end (w .moment .0) else none) (not-true r t)) ∙ held-is
+
+    pub held-by : (sum : ℕ) (m : Margins) (d : Delayed) → not r ≡ false → sum ≡ getD h (10 + sideNo (sideOf b)) 0 → m ≡ usualMargins
+        → delayedOf d ≡ expireOver m sum (sideHeld h rs b) end (w .moment .0) → delayedOf d ≡ heldUp (sideHeld h rs b) end (waitingHead false (sideHeld h rs b))
+    held-by sum m d t es em ed =
+        ed ∙ ap₂ (λ (x : Margins) (n : ℕ). expireOver x n (sideHeld h rs b) end (w .moment .0)) em (es ∙ sym (sum-held h rs (sideOf b)))
+        ∙ expire-usual (sideHeld h rs b) end (w .moment .0)
+        ∙ sym (ap (λ (x : Bool). if x then onExpire (sideHeld h rs b) end (w .moment .0) else none) (not-false r t)) ∙ held-is
+
+-- ---- an aggregate on top of its sum
+
+module _ (h : List ℕ) (a : AggregateDelay) (x : Bool) (ex : x ≡ leb (a .length .0) momentLimit) where
+  pub raised-long : not x ≡ true → (rs : List ℕ) → false ≡ fits (raisedSum (stateFrom h rs) (aggregateIn a) ∷ [])
+  unfolding fits
+  raised-long f rs =
+      let l : momentLimit < a .length .0 = leb-false (a .length .0) momentLimit (sym ex ∙ not-true x f) in
+      sym (ap (λ (y : Bool). y && true) (lt-leb (raisedSum (stateFrom h rs) (aggregateIn a)) momentLimit (omega arith)))
+
+  pub raised-fits : (b : Bool) (s : ℕ) → s ≡ getD h (10 + sideNo (sideOf b)) 0 → not x ≡ false → Limited h → s + a .length .0 < 2 ^ 64
+  raised-fits b s es f l = omega (arith, sum-within h b s l es, leb-true (a .length .0) momentLimit (sym ex ∙ not-false x f))
+
+pub raised-sum : (h : List ℕ) (a : AggregateDelay) (s n : ℕ) (r : Bool) → s ≡ getD h (10 + sideNo (sideOf (a .client))) 0 → n ≡ s + a .length .0 → r ≡ leb n momentLimit
+    → (rs : List ℕ) → r ≡ fits (raisedSum (stateFrom h rs) (aggregateIn a) ∷ [])
+unfolding fits
+raised-sum h a s n r es en er rs =
+    er ∙ ap (λ i. leb i momentLimit) (en ∙ ap (λ i. i + a .length .0) (es ∙ sym (sum-held h rs (sideOf (a .client))))) ∙ and-one (leb (raisedSum (stateFrom h rs) (aggregateIn a)) momentLimit)
+
+-- ---- a block's end
+
+pub reporting-held : (h rs : List ℕ) (b : Bool) → sideHeld h rs b .fixed .reportingDelay ≡ getD h (6 + sideNo (sideOf b)) 0
+unfolding stateFrom bank
+reporting-held h rs true = refl
+reporting-held h rs false = refl
+
+pub action-held : (h rs : List ℕ) (b : Bool) → sideHeld h rs b .fixed .actionDelay ≡ getD h (4 + sideNo (sideOf b)) 0
+unfolding stateFrom bank
+action-held h rs true = refl
+action-held h rs false = refl
+
+network-held : (h rs : List ℕ) → stateFrom h rs .settings .networkDelay ≡ getD h 0 0
+unfolding stateFrom bank
+network-held h rs = refl
+
+-- when the aggregates of the block's end are due
+abbrev dueAt : List ℕ → List ℕ → ℕ → BlockEnd → List ℕ
+dueAt h rs t k =
+    moments
+    (aggregatesOf
+    (stateFrom h rs .settings .networkDelay)
+    (sideOf (k .client))
+    (t + (k .end .0 - t))
+    (heldUp (sideHeld h rs (k .client)) (t + (k .end .0 - t)) (waitingHead false (sideHeld h rs (k .client)))))
+
+module _ (h rs : List ℕ) (t : ℕ) (k : BlockEnd) (end : ℕ) (ee : end ≡ max (k .end .0) t) where
+  pub end-within : Good h rs → t ≤ momentLimit → sideHeld h rs (k .client) .blockEnd ≡ some (k .end .0) → end ≤ momentLimit
+  end-within g l e =
+      let s : k .end .0 ≤ momentLimit = subst (λ o. Option·getD o t ≤ momentLimit) e (end-small h rs (k .client) t g l) in
+      omega arith
+
+  pub end-fits : (b : Bool) (w : ℕ) → w ≡ getD h (6 + sideNo (sideOf b)) 0 → Good h rs → t ≤ momentLimit → sideHeld h rs (k .client) .blockEnd ≡ some (k .end .0) → end + w < 2 ^ 64
+  end-fits b w ew g l e = omega (arith, end-within g l e, reporting-within h b w (g .limits) ew)
+
+  module _ (w : ℕ) (ew : w ≡ getD h (6 + sideNo (sideOf (k .client))) 0) where
+    module _ (n : ℕ) (x : Bool) (en : n ≡ end + w) (ex : x ≡ leb n momentLimit) where
+      late : end ≡ t + (k .end .0 - t)
+      late = omega arith
+
+      sent : leb ((t + (k .end .0 - t)) + sideHeld h rs (k .client) .fixed .reportingDelay) momentLimit ≡ x
+      sent = sym (ex ∙ ap (λ i. leb i momentLimit) (en ∙ ap₂ _+_ late (ew ∙ sym (reporting-held h rs (k .client)))))
+
+      pub block-late : not x ≡ true → false ≡ fits (candidateSums (stateFrom h rs) t (aBlock (blockFrom k)))
+      unfolding fits
+      block-late f = sym (ap (λ (b : Bool). b && fits (dueAt h rs t k)) (sent ∙ not-true x f))
+
+      pub block-due : (d : Delayed) (r : Bool) → not x ≡ false → delayedOf d ≡ heldUp (sideHeld h rs (k .client)) end (waitingHead false (sideHeld h rs (k .client)))
+          → r ≡ fits (moments (aggregatesOf (getD h 0 0) (sideOf (k .client)) end (delayedOf d))) → r ≡ fits (candidateSums (stateFrom h rs) t (aBlock (blockFrom k)))
+      unfolding fits
+      block-due d r f ed er =
+          er ∙ (λ i. fits (moments (aggregatesOf (sym (network-held h rs) i) (sideOf (k .client)) (late i) (due i))))
+          ∙ sym (ap (λ (b : Bool). b && fits (dueAt h rs t k)) (sent ∙ not-false x f))
+        where
+          due : delayedOf d ≡ heldUp (sideHeld h rs (k .client)) (t + (k .end .0 - t)) (waitingHead false (sideHeld h rs (k .client)))
+          due = ed ∙ ap (λ i. heldUp (sideHeld h rs (k .client)) i (waitingHead false (sideHeld h rs (k .client)))) late

@@ -1,0 +1,63 @@
+-- The code's candidate as the rules' own, and what is known of one that was found. Assumes nothing.
+use Prim.Native.Nat.{ℕ, _<_}
+use mathlib.Core.Path.{_≡_}
+use mathlib.Core.Bool.{Bool}
+use mathlib.Core.List.{List}
+use mathlib.Core.Option.{some}
+use Rattle.rules.specs.State.{Action, inRecord, side}
+use Rattle.rules.specs.ChoiceRound.{Slot, Candidate as RulesCandidate, anAggregate, aBlock, anEvent, aTimer, anAction, none-left, actionIn}
+use Rattle.event.specs.HandedIn.{sideOf, aggregateIn}
+use Rattle.event.specs.declared.ScheduledAction.{ScheduledAction}
+use Rattle.layout.specs.Records.{headOf, countOf}
+use Rattle.layout.specs.Layout.{stateFrom, actionKindAt}
+use Rattle.queue.specs.Heads.{headFrom, HeadOk}
+use Rattle.queue_peek.specs.Decoded.{blockFrom}
+use Rattle.candidate.specs.declared.Due.{Due}
+use Rattle.candidate.specs.declared.Planned.{Planned}
+use Rattle.candidate.specs.declared.Candidate.{Candidate}
+use Rattle.candidate.specs.declared.Candidate.the-variants.{Aggregate, Block, Event, Timer, Action as TheAction}
+use Rattle.candidate.specs.declared.Next.{Next}
+use Rattle.candidate.specs.declared.Next.the-variants.{Take, Nothing}
+
+-- ---- decoding
+
+-- a machine of a side
+abbrev pub dueSlot : Due → Slot
+dueSlot d = record { side = sideOf (d .client); machine = d .machine }
+
+abbrev pub plannedSlot : Planned → Slot
+plannedSlot p = record { side = sideOf (p .client); machine = p .machine }
+
+-- `ScheduledAction`: kind 1 is `SendPadding`, 2 `BlockOutgoing`
+abbrev pub actionValue : ScheduledAction → Action
+actionValue a = record { kind = actionKindAt (a .kind .0); moment = a .moment .0; duration = a .duration .0; bypass = a .bypass; replace = a .replace }
+
+-- `Candidate`, of the words h: an aggregate is the head of chain 11
+unfoldable pub candidateOf : List ℕ → Candidate → RulesCandidate
+candidateOf h (Aggregate a) = anAggregate (inRecord (headOf h 11) (aggregateIn a))
+candidateOf h (Block k) = aBlock (blockFrom k)
+candidateOf h (Event x) = anEvent (headFrom x)
+candidateOf h (Timer d) = aTimer (dueSlot d) (d .moment .0)
+candidateOf h (TheAction p) = anAction (plannedSlot p) (actionValue (p .action))
+
+-- `Next`
+unfoldable pub nextOf : List ℕ → Next → RulesCandidate
+nextOf h (Take c) = candidateOf h c
+nextOf h Nothing = none-left
+
+-- ---- what is known of a candidate that was found in the words h and rs
+
+-- a slot of the sixteen of its side
+abbrev pub SlotIn : Bool → ℕ → Type 0
+SlotIn client machine = machine < 16
+
+unfoldable pub Stands : List ℕ → List ℕ → Candidate → Type 0
+Stands h rs (Aggregate a) = 0 < countOf h 11
+Stands h rs (Block k) = side (stateFrom h rs) (sideOf (k .client)) .blockEnd ≡ some (k .end .0)
+Stands h rs (Event x) = HeadOk h rs (x .event .client) x
+Stands h rs (Timer d) = d .machine < 16
+Stands h rs (TheAction p) = (p .machine < 16) × (actionIn (stateFrom h rs) (plannedSlot p) ≡ some (actionValue (p .action)))
+
+unfoldable pub NextStands : List ℕ → List ℕ → Next → Type 0
+NextStands h rs (Take c) = Stands h rs c
+NextStands h rs Nothing = Unit {0}

@@ -1,0 +1,99 @@
+// The aggregates of `push_aggregate_delay`: the crate network has the same for a step.
+ghost use mathlib.Core.Path.{_≡_};
+ghost use Prim.Native.Nat.{_+_, _-_, _*_, _≤_};
+ghost use mathlib.Core.Option.{some};
+ghost use Rattle.rules.specs.Basics.{client as clientSide, server as serverSide};
+ghost use Rattle.rules.specs.Limits.{momentLimit, durationLimit};
+ghost use Rattle.rules.specs.Aggregates.{aggregatesOf};
+ghost use Rattle.rules.specs.ChoiceRound.{fits};
+ghost use Rattle.event.specs.HandedIn.{sideOf};
+ghost use Rattle.delay.specs.Tests.{delayedOf};
+ghost use Rattle.candidate.specs.TwoDue.{bothOf, moments};
+use delay::Delayed;
+use event::AggregateDelay;
+use moment::Length;
+use moment::Moment;
+
+// The two aggregates of a delay, one for each side's sum.
+pub struct TwoAggregates {
+    pub client: AggregateDelay,
+    pub server: AggregateDelay,
+}
+
+// A moment after `at` by what is left of a length after another.
+fn moment_of(at: Moment, ahead: Length, length: Length) -> Moment
+    requires { ⌜ at .0 ≤ momentLimit ⌝ ∗ ⌜ ahead .0 ≤ 4 * durationLimit ⌝ }
+    ensures { λ r. ⌜ r .0 ≡ at .0 + (ahead .0 - length .0) ⌝ }
+{
+    at.plus(ahead.beyond(length))
+}
+
+// At the client's end: 4 and 3 times the network delay.
+fn at_client(delay: Length, at: Moment, length: Length) -> TwoAggregates
+    requires { ⌜ delay .0 ≤ durationLimit ⌝ ∗ ⌜ at .0 ≤ momentLimit ⌝ }
+    ensures { λ r. ⌜ bothOf r ≡ aggregatesOf (delay .0) clientSide (at .0) (some (length .0)) ⌝ }
+{
+    let first = moment_of(at, delay.times(4), length);
+    let second = moment_of(at, delay.times(3), length);
+    TwoAggregates {
+        client: AggregateDelay {
+            moment: first,
+            length,
+            client: true,
+        },
+        server: AggregateDelay {
+            moment: second,
+            length,
+            client: false,
+        },
+    }
+}
+
+// At the server's end: once and 4 times.
+fn at_server(delay: Length, at: Moment, length: Length) -> TwoAggregates
+    requires { ⌜ delay .0 ≤ durationLimit ⌝ ∗ ⌜ at .0 ≤ momentLimit ⌝ }
+    ensures { λ r. ⌜ bothOf r ≡ aggregatesOf (delay .0) serverSide (at .0) (some (length .0)) ⌝ }
+{
+    let first = moment_of(at, delay, length);
+    let second = moment_of(at, delay.times(4), length);
+    TwoAggregates {
+        client: AggregateDelay {
+            moment: first,
+            length,
+            client: true,
+        },
+        server: AggregateDelay {
+            moment: second,
+            length,
+            client: false,
+        },
+    }
+}
+
+// The aggregates of a delay of this length at a side's end.
+pub fn both(delay: Length, client: bool, at: Moment, length: Length) -> TwoAggregates
+    requires { ⌜ delay .0 ≤ durationLimit ⌝ ∗ ⌜ at .0 ≤ momentLimit ⌝ }
+    ensures { λ r. ⌜ bothOf r ≡ aggregatesOf (delay .0) (sideOf client) (at .0) (some (length .0)) ⌝ }
+{
+    if client {
+        return at_client(delay, at, length);
+    }
+    at_server(delay, at, length)
+}
+
+// Whether the moments of the aggregates are within the limit.
+pub fn fit(delay: Length, client: bool, at: Moment, by: Delayed) -> bool
+    requires { ⌜ delay .0 ≤ durationLimit ⌝ ∗ ⌜ at .0 ≤ momentLimit ⌝ }
+    ensures { λ r. ⌜ r ≡ fits (moments (aggregatesOf (delay .0) (sideOf client) (at .0) (delayedOf by))) ⌝ }
+{
+    let Delayed::By(length) = by else {
+        return true;
+    };
+    let b = both(delay, client, at, length);
+    let first = b.client.moment.fits();
+    let second = b.server.moment.fits();
+    if first {
+        return second;
+    }
+    false
+}

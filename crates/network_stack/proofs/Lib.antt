@@ -1,0 +1,9 @@
+pub mod AggregateLaws
+pub mod EvictLaws
+pub mod PacketLaws
+pub mod TakeLaws
+pub mod MakeLaws
+pub mod PlanLaws
+pub mod FullLaws
+pub mod CarryLaws
+pub mod StepLaws

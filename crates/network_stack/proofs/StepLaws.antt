@@ -1,0 +1,161 @@
+-- Laws of the step as the call makes it: refused with number 9 or 10, or carried out. Assumes nothing.
+use Prim.Native.Nat.{ℕ, _+_, _≤_, _<_, _*_}
+use mathlib.Core.Path.{_≡_, refl, sym, ap, _∙_}
+use mathlib.Core.Bool.{Bool, true, false, false≢true}
+use mathlib.Core.List.{List}
+use mathlib.Core.Logic.{_⊎_, inl, inr}
+use native.Mathlib.Omega.{arith}
+use lib.ListN.{getD, set, take, length-set}
+use lib.Seq.{getD-set-other, getD-take}
+use Rattle.rules.specs.Basics.{if_then_else_, kindOf}
+use Rattle.rules.specs.State.{State, withEnded}
+use Rattle.rules.specs.Limits.{durationLimit}
+use Rattle.rules.specs.Choice.{Answer as RulesAnswer, no-step, refused, yes-step}
+use Rattle.rules.specs.Calls.{leaves}
+use Rattle.rules.specs.Effects.{afterStep}
+use Rattle.rules.specs.ChoiceRound.{fits}
+use Rattle.rules.specs.NetworkStep.{Stepped as RulesStepped}
+use Rattle.rules.specs.Refusals.{full}
+use Rattle.event.specs.Answers.{yesOrNo}
+use Rattle.event.specs.HandedIn.{eventIn, sideOf}
+use Rattle.event.specs.declared.SimEvent.{SimEvent}
+use Rattle.event.specs.declared.answer.Step.the-variants.{Made, Refused}
+use Rattle.layout.specs.Accepted.{Accepted}
+use Rattle.layout.specs.Layout.{stateFrom, stateOf}
+use Rattle.layout.specs.Spare.{Spare}
+use Rattle.layout.specs.Changes.{sideNo}
+use Rattle.queue.specs.Changes.{Leaves}
+use Rattle.network.specs.Plans.{tunnelPlan}
+use Rattle.layout.proofs.Banks.{bank-at}
+use Rattle.layout.proofs.Shapes.{accepted-shaped}
+use Rattle.layout.proofs.Stores.{ended-shaped, ended-stored}
+use Rattle.layout.proofs.Theorems.{holds-accepted}
+use Rattle.queue.proofs.Changing.{shaped-count}
+use Rattle.queue.proofs.Sizes.{stamps-length}
+use Rattle.network_stack.specs.declared.plan.Plan.{Plan}
+use Rattle.network_stack.specs.declared.plan.Plan.the-variants.{Nothing, Pad, Queue, Send}
+use Rattle.network_stack.specs.Steps.{MayMake, MayStep, Planned, Small, StepDone, afterOf}
+
+-- ---- a plan gives back no more stamps than there are
+
+side-small : (b : Bool) → 5 + 5 * sideNo (sideOf b) < 12
+side-small true = omega arith
+side-small false = omega arith
+
+pub plan-small : (w : List ℕ) (p : Plan) (now : ℕ) (e : SimEvent) → Accepted w → Planned (stateOf w) now e p → Small p
+unfolding Planned Small tunnelPlan
+plan-small w Nothing now e a pl = tt
+plan-small w (Queue q) now e a pl = tt
+plan-small w (Pad q) now e a pl = tt
+plan-small w (Send t) now e a pl =
+    omega
+    (arith, ap (λ x. x .stale) (pl .plan), stamps-length w (sideOf (e .client)), shaped-count w (accepted-shaped w a) (5 + 5 * sideNo (sideOf (e .client))) (side-small (e .client)))
+
+-- ---- the network delay, in word 0
+
+module _ (w : List ℕ) (a : Accepted w) where
+  pub delay-is : getD w 0 0 ≡ stateOf w .settings .networkDelay
+  unfolding stateFrom
+  delay-is = sym (bank-at 0 24 (take 256 w) 0 (omega arith) ∙ getD-take 256 w 0 0 (omega arith))
+
+  pub delay-small : getD w 0 0 ≤ durationLimit
+  delay-small = omega (arith, delay-is, holds-accepted w a .settings .network)
+
+-- ---- the answers are told apart
+
+not-ten : (b : Bool) → yesOrNo b ≡ refused 10 0 → ⊥
+not-ten true e = let z : _≡_ {A = ℕ} 0 1 = cc in omega arith
+not-ten false e = let z : _≡_ {A = ℕ} 0 1 = cc in omega arith
+
+nine-ten : _≡_ {A = RulesAnswer} (refused 9 0) (refused 10 0) → ⊥
+nine-ten e = let z : _≡_ {A = ℕ} 9 10 = cc in omega arith
+
+answer-is : (b : Bool) → yesOrNo b ≡ (if b then yes-step else no-step)
+answer-is true = refl
+answer-is false = refl
+
+-- a word without a meaning is none that a change of chains writes
+spare-beside : (i : ℕ) → Spare i → (i < 256) × ((i < 24) ⊎ (48 ≤ i))
+spare-beside i (inl p) = let x = p .0 in let y = p .1 in (omega arith, inl (omega arith))
+spare-beside i (inr (inl p)) = let x = p .0 in let y = p .1 in (omega arith, inr (omega arith))
+spare-beside i (inr (inr p)) = let x = p .0 in let y = p .1 in (omega arith, inr (omega arith))
+
+spare-not : (i : ℕ) → Spare i → i ≡ 16 → ⊥
+spare-not i (inl p) e = let x = p .0 in omega arith
+spare-not i (inr (inl p)) e = let x = p .0 in omega arith
+spare-not i (inr (inr p)) e = let x = p .0 in omega arith
+
+clash : {A : Type 0} (b : Bool) → b ≡ true → b ≡ false → A
+clash b p q = absurd (false≢true (sym q ∙ p))
+
+-- ---- the call
+
+module _ (w : List ℕ) (e : SimEvent) (now : ℕ) (p : Plan) (may : MayStep w e now) (pl : Planned (stateOf w) now e p) (x : Bool)
+    (ex : (t : ℕ) (v : SimEvent) → Planned (stateOf w) t v p → x ≡ full (afterOf (stateOf w) t v .state)) where
+  full-is : x ≡ full (afterOf (stateOf w) now e .state)
+  full-is = ex now e pl
+
+  pub step-nine : x ≡ true → StepDone w now e (Refused (record { number = 9; rounds = 0 })) w
+  unfolding afterOf
+  step-nine t =
+      record {
+        nine = λ f. (refl, refl);
+        answer = λ f. clash _ (sym full-is ∙ t) f;
+        state = λ f. clash _ (sym full-is ∙ t) f;
+        shaped = accepted-shaped w (may .accepted);
+        size = refl;
+        spare = λ i s. refl;
+        ten = λ q. absurd (nine-ten q);
+      }
+
+  module _ (no : x ≡ false) (y : Bool)
+      (ey : (s : State) → Planned s now e p → getD w 0 0 ≡ s .settings .networkDelay → y ≡ fits (afterOf s now e .sums)) where
+    fits-is : y ≡ fits (afterOf (stateOf w) now e .sums)
+    fits-is = ey (stateOf w) pl (delay-is w (may .accepted))
+
+    pub step-ten : y ≡ false → StepDone w now e (Refused (record { number = 10; rounds = 0 })) (set w 16 1)
+    unfolding afterOf
+    step-ten t =
+        record {
+          nine = λ f. clash _ f (sym full-is ∙ no);
+          answer = λ f. sym (ap (λ b. if_then_else_ b (leaves (after .state) (if after .answer then yes-step else no-step)) (leaves (withEnded (stateOf w) true) (refused 10 0)) .answer) no-fit);
+          state = λ f.
+              ended-stored w (accepted-shaped w (may .accepted)) 1
+              ∙ sym (ap (λ b. if_then_else_ b (leaves (after .state) (if after .answer then yes-step else no-step)) (leaves (withEnded (stateOf w) true) (refused 10 0)) .state) no-fit);
+          shaped = ended-shaped w (accepted-shaped w (may .accepted)) 1 (omega arith);
+          size = length-set w 16 1;
+          spare = λ i s. getD-set-other w 16 i 1 0 (spare-not i s);
+          ten = λ q i n. getD-set-other w 16 i 1 0 n;
+        }
+      where
+        after : RulesStepped
+        after = afterStep (stateOf w) now (eventIn e) (kindOf (e .kind .0))
+
+        no-fit : fits (after .sums) ≡ false
+        no-fit = sym fits-is ∙ t
+
+    module _ (yes : y ≡ true) where
+      pub make-may : MayMake w p e (getD w 0 0) now
+      make-may = record { accepted = may .accepted; plan = pl; room = sym full-is ∙ no; delay = delay-is w (may .accepted); time = may .handed .time }
+
+      pub step-made : (left : List ℕ) (b : Bool) → Leaves w left (afterOf (stateOf w) now e .state)
+          → ((s : State) (t : ℕ) (v : SimEvent) → v .kind .0 ≡ e .kind .0 → b ≡ afterOf s t v .answer) → StepDone w now e (Made (record { active = b })) left
+      unfolding afterOf
+      step-made left b l eb =
+          record {
+            nine = λ f. clash _ f (sym full-is ∙ no);
+            answer = λ f.
+                answer-is b ∙ ap (λ a. if_then_else_ a yes-step no-step) (eb (stateOf w) now e refl)
+                ∙ sym (ap (λ b. if_then_else_ b (leaves (after .state) (if after .answer then yes-step else no-step)) (leaves (withEnded (stateOf w) true) (refused 10 0)) .answer) does-fit);
+            state = λ f. l .state ∙ sym (ap (λ b. if_then_else_ b (leaves (after .state) (if after .answer then yes-step else no-step)) (leaves (withEnded (stateOf w) true) (refused 10 0)) .state) does-fit);
+            shaped = l .shaped;
+            size = l .size;
+            spare = λ i s. l .beside i (spare-beside i s .0) (spare-beside i s .1);
+            ten = λ q. absurd (not-ten b q);
+          }
+        where
+          after : RulesStepped
+          after = afterStep (stateOf w) now (eventIn e) (kindOf (e .kind .0))
+
+          does-fit : fits (after .sums) ≡ true
+          does-fit = sym fits-is ∙ yes
