@@ -1,0 +1,128 @@
+// Reads call lists from standard input and writes the answer of each call (docs/CALLS.md).
+ghost use mathlib.Core.Path.{_≡_};
+ghost use Prim.Native.Nat.{_≤_, _<_};
+ghost use lib.ListN.{length};
+
+mod calls;
+mod line;
+mod lists;
+mod text;
+mod words;
+
+use libc::STDIN_FILENO;
+use line::Scan;
+
+// What a turn leaves: the turns still to make, 0 where the input has ended.
+struct Turn {
+    left: u64,
+    scan: Scan,
+}
+
+// One byte of the input.
+fn next_byte(
+    s: Scan,
+    b: u8,
+    state: &mut [u64],
+    out: &mut [u8],
+    name: &mut [u8; 24],
+    forms: &mut [u64; 12],
+    values: &mut [u64; 12],
+) -> Scan
+    requires { ⌜ (s .lent ≤ length (now state)) × (s .used ≤ length (now out)) ⌝ }
+    ensures { λ r. ⌜ (r .lent ≤ length (now (state .exit))) × (r .used ≤ length (now (out .exit))) ⌝ }
+{
+    if s.place == line::ARGUMENT {
+        if line::is_digit(b) {
+            return s.with_digit(b);
+        }
+    }
+    if b == b'\n' {
+        return line::done(s, state, out, name, forms, values);
+    }
+    line::fed(s, b, name, forms, values)
+}
+
+// One piece of the input.
+fn scan_piece(
+    input: &[u8],
+    start: Scan,
+    state: &mut [u64],
+    out: &mut [u8],
+    name: &mut [u8; 24],
+    forms: &mut [u64; 12],
+    values: &mut [u64; 12],
+) -> Scan
+    requires { ⌜ (start .lent ≤ length (now state)) × (start .used ≤ length (now out)) ⌝ }
+    ensures { λ r. ⌜ (r .lent ≤ length (now (state .exit))) × (r .used ≤ length (now (out .exit))) ⌝ }
+{
+    let mut s = start;
+    let mut i = 0;
+    while i < input.len() {
+        s = next_byte(s, input[i], state, out, name, forms, values);
+        i += 1;
+    }
+    s
+}
+
+// Reads a piece and takes it in.
+fn turn_once(
+    input: &mut [u8],
+    s: Scan,
+    turns: u64,
+    state: &mut [u64],
+    out: &mut [u8],
+    name: &mut [u8; 24],
+    forms: &mut [u64; 12],
+    values: &mut [u64; 12],
+) -> Turn
+    requires { ⌜ (0 < turns) × ((s .lent ≤ length (now state)) × (s .used ≤ length (now out))) ⌝ }
+    ensures { λ r. ⌜ (r .left < turns) × ((r .scan .lent ≤ length (now (state .exit))) × (r .scan .used ≤ length (now (out .exit)))) ⌝ }
+{
+    let got = libc::read(STDIN_FILENO, input);
+    let n = io::count(got, input);
+    if n == 0 {
+        return Turn { left: 0, scan: s };
+    }
+    let scan = scan_piece(&input[0..n], s, state, out, name, forms, values);
+    Turn {
+        left: turns - 1,
+        scan,
+    }
+}
+
+// All of the input: a piece a turn, from a count of turns that no run uses up. A last line needs no newline.
+fn run(
+    input: &mut [u8],
+    state: &mut [u64],
+    out: &mut [u8],
+    name: &mut [u8; 24],
+    forms: &mut [u64; 12],
+    values: &mut [u64; 12],
+) {
+    let mut s = Scan::new(state);
+    let mut turns: u64 = 0xffff_ffff_ffff_ffff;
+    while turns > 0 {
+        let t = turn_once(input, s, turns, state, out, name, forms, values);
+        s = t.scan;
+        turns = t.left;
+    }
+    let last = scan_piece(b"\n", s, state, out, name, forms, values);
+    text::flush(out, last.used);
+}
+
+fn main() {
+    let mut state = [0u64; 8192];
+    let mut input = io::large_buffer();
+    let mut out = io::large_buffer();
+    let mut name = [0u8; 24];
+    let mut forms = [0u64; 12];
+    let mut values = [0u64; 12];
+    run(
+        &mut input,
+        &mut state,
+        &mut out,
+        &mut name,
+        &mut forms,
+        &mut values,
+    );
+}
