@@ -78,6 +78,19 @@ def left_out(line, answer):
     return answer.startswith("refused ") and not answer.startswith("refused 10 ")
 
 
+def for_rust(line):
+    """The line with what document 01 ignores made 0: the Rust has no moment for
+    a number above 2^62 - 1."""
+    words = line.split()
+    if words and words[0] in ("push", "sim_network_stack"):
+        kind = words[1] if words[0] == "push" else words[2]
+        if kind not in ("2", "6", "8", "9"):
+            words[-1] = "0"
+    if words and words[0] == "set_action" and words[3] == "1":
+        words[5] = "0"
+    return " ".join(words)
+
+
 def comparable(answer):
     """An answer without the number of free records."""
     return "\n".join(text for text in answer.split("\n") if not text.startswith("free "))
@@ -95,7 +108,7 @@ def compare_list(ours, theirs, lines):
     """The first difference, or None; and what was compared, as a Counter."""
     our_answers = answers(ours, lines)
     places = [i for i, line in enumerate(lines) if not left_out(line, our_answers[i])]
-    their_answers = answers(theirs, [lines[i] for i in places])
+    their_answers = answers(theirs, [for_rust(lines[i]) for i in places])
     counts = Counter(lists=1)
     for i in set(range(len(lines))) - set(places):
         if our_answers[i].startswith("refused "):

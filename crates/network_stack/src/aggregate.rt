@@ -11,13 +11,7 @@ use moment::Moment;
 use queue::records;
 
 // The client's, then the server's, or none where there is no delay.
-pub fn push_aggregate_delay(
-    block: &mut [u64],
-    delay: Length,
-    client: bool,
-    at: Moment,
-    by: Delayed,
-)
+pub fn push_aggregate_delay(block: &mut [u64], delay: Length, client: bool, at: Moment, by: Delayed)
     requires { ⌜ MayAggregate (now block) (delay .0) (sideOf client) (at .0) (delayedOf by) ⌝ }
     ensures { λ _. ⌜ Leaves (now (block .entry)) (now (block .exit)) (addAggregates (stateOf (now (block .entry))) (aggregatesOf (delay .0) (sideOf client) (at .0) (delayedOf by))) ⌝ }
 {

@@ -1,6 +1,7 @@
 // What a network step writes, and the step itself on an accepted state: it is planned, refused with number 9 or 10, or carried out.
 ghost use Rattle.rules.specs.Limits.{momentLimit, durationLimit};
 ghost use Rattle.network_stack.specs.Steps.{MayStep, StepDone};
+
 pub mod aggregate;
 pub mod packets;
 pub mod padding;
@@ -23,12 +24,18 @@ pub fn network_step(block: &mut [u64], e: SimEvent, time: Moment) -> Step
 {
     let p = plan::plan_in(block, e, time);
     if room::no_room(block, p) {
-        return Step::Refused(Refusal { number: 9, rounds: 0 });
+        return Step::Refused(Refusal {
+            number: 9,
+            rounds: 0,
+        });
     }
     let delay = Length(block[0]);
     if !plan::fit(p, delay, e, time) {
         block[16] = 1;
-        return Step::Refused(Refusal { number: 10, rounds: 0 });
+        return Step::Refused(Refusal {
+            number: 10,
+            rounds: 0,
+        });
     }
     plan::make(block, p, e, delay, time);
     let active = plan::active(e.kind);

@@ -12,15 +12,15 @@ ghost use Rattle.delay.specs.Tests.{delayedOf};
 ghost use Rattle.queue_peek.specs.Decoded.{blockFrom};
 ghost use Rattle.round.specs.Changes.{Becomes};
 ghost use Rattle.round.specs.Cases.{Shows, BlockDue, Passed, endOf};
-use candidate::sums;
 use crate::aggregate;
 use crate::round::Pass;
 use crate::stores;
+use candidate::sums;
 use delay::Delayed;
-use event::answer::Choice;
-use event::answer::Chosen;
 use event::Kind;
 use event::SimEvent;
+use event::answer::Choice;
+use event::answer::Chosen;
 use moment::Length;
 use moment::Moment;
 use queue::records;
@@ -71,7 +71,10 @@ pub fn end_block(block: &mut [u64], time: Moment, k: BlockEnd, rounds: u64) -> P
     let reporting = stores::reporting_delay(block, k.client);
     let e = end_event(k.client, k.end.later(time), reporting);
     if reporting.0 == 0 {
-        return Pass::Answered(Choice::Event(Chosen { event: e, rounds: rounds + 1 }));
+        return Pass::Answered(Choice::Event(Chosen {
+            event: e,
+            rounds: rounds + 1,
+        }));
     }
     records::push_sim(block, e);
     Pass::On

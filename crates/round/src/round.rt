@@ -11,14 +11,14 @@ ghost use Rattle.candidate.specs.Candidates.{candidateOf, Stands};
 ghost use Rattle.candidate.specs.Promises.{Picked};
 ghost use Rattle.round.specs.Cases.{Passed, Marked};
 ghost use Rattle.round.specs.Rounds.{MayRound, MayAct, Rounded};
-use candidate::Candidate;
-use candidate::Next;
-use candidate::first;
-use candidate::sums;
 use crate::actions;
 use crate::blocks;
 use crate::cases;
 use crate::stores;
+use candidate::Candidate;
+use candidate::Next;
+use candidate::first;
+use candidate::sums;
 use event::answer::Choice;
 use event::answer::Chosen;
 use event::answer::Finished;
@@ -67,7 +67,10 @@ fn act(block: &mut [u64], time: Moment, c: Candidate, rounds: u64) -> Pass
         }
         Candidate::Event(h) => {
             let e = cases::take_event(block, time, h);
-            return Pass::Answered(Choice::Event(Chosen { event: e, rounds: rounds + 1 }));
+            return Pass::Answered(Choice::Event(Chosen {
+                event: e,
+                rounds: rounds + 1,
+            }));
         }
         Candidate::Timer(d) => {
             actions::do_internal_timer(block, d);

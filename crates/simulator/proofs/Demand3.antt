@@ -61,14 +61,14 @@ module _ (holds : (w : List ℕ) → Accepted w → AcceptedState (stateOf w)) (
       record {
         bound = omega (arith, run-bound l w h r);
         carries = λ front rest x e.
-          let k = found l front rest x w h r e in
-          ap carried (answers (wordsAfter w front) x (k .accepted) (k .outcome)) ∙ keeps (wordsAfter w front) x (k .accepted) .carries;
+            let k = found l front rest x w h r e in
+            ap carried (answers (wordsAfter w front) x (k .accepted) (k .outcome)) ∙ keeps (wordsAfter w front) x (k .accepted) .carries;
         counts = run-total l w h r;
         room = λ front rest x now e c. let k = found l front rest x w h r e in keeps (wordsAfter w front) x (k .accepted) .room now c;
         nothing = λ front rest x now e c n.
-          let k = found l front rest x w h r e in
-          let a = answers (wordsAfter w front) x (k .accepted) (k .outcome) in
-          ap saysNothing a ∙ keeps (wordsAfter w front) x (k .accepted) .nothing now c (sym (ap isRefused a) ∙ n);
+            let k = found l front rest x w h r e in
+            let a = answers (wordsAfter w front) x (k .accepted) (k .outcome) in
+            ap saysNothing a ∙ keeps (wordsAfter w front) x (k .accepted) .nothing now c (sym (ap isRefused a) ∙ n);
         accepted = after-accepted l w h r;
         free = frees (wordsAfter w l) (after-accepted l w h r);
       }

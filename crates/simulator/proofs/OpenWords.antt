@@ -151,9 +151,10 @@ module _
   words-are i = ap (λ x. getD x i 0) same-words ∙ head-words o count w (cleared .1) (omega (arith, cleared .0, size .least)) i
 
   pub rest-ready : ((length (take (length headed - 256) (drop 256 headed)) ≡ 4 * count) × (1 ≤ count)) × AllZero (take (length headed - 256) (drop 256 headed))
-  rest-ready =
-      ((rw (rest-part headed, length-drop 256 headed) (omega (arith, long, records-are, size .least, size .whole)), omega (arith, records-are, size .least)),
-      λ k. ap (λ x. getD x k 0) (rest-part headed) ∙ getD-drop 256 headed k 0 ∙ words-are (256 + k) ∙ list-past (firstWords o count) (256 + k) (omega arith))
+  rest-ready = (
+    (rw (rest-part headed, length-drop 256 headed) (omega (arith, long, records-are, size .least, size .whole)), omega (arith, records-are, size .least)),
+    λ k. ap (λ x. getD x k 0) (rest-part headed) ∙ getD-drop 256 headed k 0 ∙ words-are (256 + k) ∙ list-past (firstWords o count) (256 + k) (omega arith),
+  )
 
   pub written-long :
       (ys : List ℕ) → length ys ≡ length (take (length headed - 256) (drop 256 headed)) → length (putMid 256 (length headed - 256) headed ys) ≡ length w₀

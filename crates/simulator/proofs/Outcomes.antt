@@ -103,8 +103,8 @@ module _ (frees : (w : List ℕ) → Accepted w → FreeRecords w) where
         bad = λ s b. absurd (b acc);
         answer = λ _. k .answer ∙ sym (ap (λ (o : Option ℕ). unlessRefused o (stateOf w) (work (stateOf w) c) .answer) e);
         state = λ _.
-          subst (λ (s : State). Left w s left) (sym (ap (λ (o : Option ℕ). unlessRefused o (stateOf w) (work (stateOf w) c) .state) e))
-          (record { accepted = k .accepted; state = k .state; spare = k .spare; size = k .size; free = frees left (k .accepted) });
+            subst (λ (s : State). Left w s left) (sym (ap (λ (o : Option ℕ). unlessRefused o (stateOf w) (work (stateOf w) c) .state) e))
+            (record { accepted = k .accepted; state = k .state; spare = k .spare; size = k .size; free = frees left (k .accepted) });
         kept = λ _ n r. absurd (Option·none-ne-some n (sym e ∙ r));
         ten = λ _. k .ten;
       }

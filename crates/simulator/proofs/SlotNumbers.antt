@@ -52,9 +52,10 @@ module _ (h : List ℕ) (c : Bool) (machine : ℕ) (go : getD h 16 0 ≡ 0) (n :
 
   pub clear-numbers : CallNumber h (clear-timer (slotIn c machine)) n × CallNumber h (clear-action (slotIn c machine)) n
   unfolding table
-  clear-numbers =
-      (λ rs g. en rs ∙ going (stateFrom h rs) (clear-timer (slotIn c machine)) (not-ended h rs go),
-      λ rs g. en rs ∙ going (stateFrom h rs) (clear-action (slotIn c machine)) (not-ended h rs go))
+  clear-numbers = (
+    λ rs g. en rs ∙ going (stateFrom h rs) (clear-timer (slotIn c machine)) (not-ended h rs go),
+    λ rs g. en rs ∙ going (stateFrom h rs) (clear-action (slotIn c machine)) (not-ended h rs go),
+  )
 
   -- ---- setting: 5
 

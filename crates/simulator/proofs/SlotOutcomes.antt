@@ -39,7 +39,6 @@ timer-spare w j v small i (inl x) = getD-set-other w (64 + j) i v 0 (λ e. omega
 timer-spare w j v small i (inr (inl x)) = getD-set-other w (64 + j) i v 0 (λ e. omega arith)
 timer-spare w j v small i (inr (inr x)) = getD-set-other w (64 + j) i v 0 (λ e. omega arith)
 
-
 -- a machine that its side has
 pub has-small : (w : List ℕ) (c : Bool) (m : ℕ) → Accepted w → noMachine (stateOf w) (slotIn c m) ≡ false → m < 16
 has-small w c m acc e = omega (arith, slot-has (take 256 w) (drop 256 w) c m e, machines-most (take 256 w) c (acc .good .limits))

@@ -158,10 +158,16 @@ pub fn open(block: &mut [u64], o: Opening) -> Answer
     ensures { λ a. ⌜ Opens (now (block .entry)) (openingOf o) (answerOf a) (now (block .exit)) ⌝ }
 {
     if !accept::size_ok(block.len()) {
-        return Answer::Refused(Refusal { number: 1, rounds: 0 });
+        return Answer::Refused(Refusal {
+            number: 1,
+            rounds: 0,
+        });
     }
     if !fits(o) {
-        return Answer::Refused(Refusal { number: 4, rounds: 0 });
+        return Answer::Refused(Refusal {
+            number: 4,
+            rounds: 0,
+        });
     }
     write_state(block, o);
     Answer::Done

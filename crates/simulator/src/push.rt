@@ -8,10 +8,10 @@ ghost use Rattle.event.specs.Answers.{answerOf};
 ghost use Rattle.simulator.specs.Kept.{keptEvent};
 ghost use Rattle.simulator.specs.Outcome.{Outcome};
 use crate::admit;
-use event::answer::Answer;
-use event::answer::Refusal;
 use event::Kind;
 use event::SimEvent;
+use event::answer::Answer;
+use event::answer::Refusal;
 use moment::Moment;
 use queue::header;
 use queue::records;
@@ -101,7 +101,10 @@ pub fn push_sim(block: &mut [u64], e: SimEvent) -> Answer
 {
     let refused = push_refusal(block, e);
     if refused != 0 {
-        return Answer::Refused(Refusal { number: refused, rounds: 0 });
+        return Answer::Refused(Refusal {
+            number: refused,
+            rounds: 0,
+        });
     }
     records::push_sim(block, kept(e));
     Answer::Done

@@ -12,10 +12,10 @@ ghost use Rattle.simulator.specs.Numbers.{slotIn, noRoom, keptNo, SlotNu
 ghost use Rattle.event.specs.Answers.{answerOf};
 ghost use Rattle.simulator.specs.Outcome.{Outcome};
 use crate::admit;
-use event::answer::Answer;
-use event::answer::Refusal;
 use event::ActionKind;
 use event::ScheduledAction;
+use event::answer::Answer;
+use event::answer::Refusal;
 use moment::Length;
 use moment::Moment;
 use queue::header;
@@ -146,7 +146,10 @@ pub fn set_timer(block: &mut [u64], client: bool, machine: u64, moment: Moment) 
 {
     let n = timer_refusal(block, client, machine, moment);
     if n != 0 {
-        return Answer::Refused(Refusal { number: n, rounds: 0 });
+        return Answer::Refused(Refusal {
+            number: n,
+            rounds: 0,
+        });
     }
     let j = slot(client, machine);
     block[64 + j] = moment.0 + 1;
@@ -159,7 +162,10 @@ pub fn clear_timer(block: &mut [u64], client: bool, machine: u64) -> Answer
 {
     let n = clear_refusal(block, client, machine);
     if n != 0 {
-        return Answer::Refused(Refusal { number: n, rounds: 0 });
+        return Answer::Refused(Refusal {
+            number: n,
+            rounds: 0,
+        });
     }
     let j = slot(client, machine);
     block[64 + j] = 0;
@@ -196,7 +202,10 @@ pub fn set_action(block: &mut [u64], client: bool, machine: u64, a: ScheduledAct
 {
     let n = action_refusal(block, client, machine, a);
     if n != 0 {
-        return Answer::Refused(Refusal { number: n, rounds: 0 });
+        return Answer::Refused(Refusal {
+            number: n,
+            rounds: 0,
+        });
     }
     let j = slot(client, machine);
     let word = action_word(a);
@@ -211,7 +220,10 @@ pub fn clear_action(block: &mut [u64], client: bool, machine: u64) -> Answer
 {
     let n = clear_refusal(block, client, machine);
     if n != 0 {
-        return Answer::Refused(Refusal { number: n, rounds: 0 });
+        return Answer::Refused(Refusal {
+            number: n,
+            rounds: 0,
+        });
     }
     let j = slot(client, machine);
     store_action(block, j, 0, Moment(0), Length(0));

@@ -9,10 +9,10 @@ ghost use Rattle.simulator.specs.Outcome.{Outcome};
 ghost use Rattle.simulator.specs.StepNumbers.{StepNumber, UpToEight};
 use crate::admit;
 use crate::push;
-use event::answer::Refusal;
-use event::answer::Step;
 use event::Kind;
 use event::SimEvent;
+use event::answer::Refusal;
+use event::answer::Step;
 use moment::Moment;
 
 // Number 8: an unpadded `TunnelSent` with a delay above its moment.
