@@ -1,0 +1,120 @@
+// The core for C and Rust: the calls of `simulator` on a lent block, with numbers. A side or a flag crosses as a number: 0 is server or no, every
+// other number client or yes. A call returns 0, or the number of its refusal.
+ghost use mathlib.Core.Path.{_≡_};
+ghost use Rattle.rules.specs.Arguments.{push, set-action, clear-action, set-timer, clear-timer};
+ghost use Rattle.event.specs.Answers.{answerOf};
+ghost use Rattle.layout.specs.Decides.{Decides};
+ghost use Rattle.layout.specs.Accepted.{Accepted};
+ghost use Rattle.maybenot_core.specs.Told.{isSet, eventFor, actionFor, slotFor, numberIn, Told};
+use event::ActionKind;
+use event::Kind;
+use event::ScheduledAction;
+use event::SimEvent;
+use event::answer::Answer;
+use moment::Length;
+use moment::Moment;
+
+fn is_set(n: u64) -> bool
+    ensures { λ b. ⌜ b ≡ isSet n ⌝ }
+{
+    n != 0
+}
+
+// The number of an answer: 0 for done.
+fn number(a: Answer) -> u64
+    ensures { λ n. ⌜ n ≡ numberIn (answerOf a) ⌝ }
+{
+    let Answer::Refused(r) = a else {
+        return 0;
+    };
+    r.number
+}
+
+// Whether the lent words are an accepted state.
+#[no_mangle]
+pub extern "C" fn maybenot_core_accepted(block: &[u64]) -> bool
+    ensures { λ r. ⌜ Decides (Accepted (now (block .entry))) r ⌝ }
+{
+    accept::accepted(block)
+}
+
+// An event is pushed.
+#[no_mangle]
+pub extern "C" fn maybenot_core_push_sim(
+    block: &mut [u64],
+    kind: u64,
+    moment: u64,
+    delay: u64,
+    side: u64,
+    padding: u64,
+    bypass: u64,
+    replace: u64,
+    machine: u64,
+) -> u64
+    ensures { λ n. ⌜ Told (now (block .entry)) (push (eventFor kind moment delay side padding bypass replace machine)) n (now (block .exit)) ⌝ }
+{
+    let e = SimEvent {
+        kind: Kind(kind),
+        moment: Moment(moment),
+        delay: Length(delay),
+        client: is_set(side),
+        padding: is_set(padding),
+        bypass: is_set(bypass),
+        replace: is_set(replace),
+        machine,
+    };
+    number(simulator::push::push_sim(block, e))
+}
+
+// A machine's timer is set.
+#[no_mangle]
+pub extern "C" fn maybenot_core_set_timer(
+    block: &mut [u64],
+    side: u64,
+    machine: u64,
+    moment: u64,
+) -> u64
+    ensures { λ n. ⌜ Told (now (block .entry)) (set-timer (slotFor side machine) moment) n (now (block .exit)) ⌝ }
+{
+    number(simulator::slots::set_timer(block, is_set(side), machine, Moment(moment)))
+}
+
+// A machine's timer is cleared.
+#[no_mangle]
+pub extern "C" fn maybenot_core_clear_timer(block: &mut [u64], side: u64, machine: u64) -> u64
+    ensures { λ n. ⌜ Told (now (block .entry)) (clear-timer (slotFor side machine)) n (now (block .exit)) ⌝ }
+{
+    number(simulator::slots::clear_timer(block, is_set(side), machine))
+}
+
+// A machine's action is cleared.
+#[no_mangle]
+pub extern "C" fn maybenot_core_clear_action(block: &mut [u64], side: u64, machine: u64) -> u64
+    ensures { λ n. ⌜ Told (now (block .entry)) (clear-action (slotFor side machine)) n (now (block .exit)) ⌝ }
+{
+    number(simulator::slots::clear_action(block, is_set(side), machine))
+}
+
+// A machine's action is set.
+#[no_mangle]
+pub extern "C" fn maybenot_core_set_action(
+    block: &mut [u64],
+    side: u64,
+    machine: u64,
+    kind: u64,
+    moment: u64,
+    duration: u64,
+    bypass: u64,
+    replace: u64,
+) -> u64
+    ensures { λ n. ⌜ Told (now (block .entry)) (set-action (slotFor side machine) (actionFor kind moment duration bypass replace)) n (now (block .exit)) ⌝ }
+{
+    let a = ScheduledAction {
+        kind: ActionKind(kind),
+        moment: Moment(moment),
+        duration: Length(duration),
+        bypass: is_set(bypass),
+        replace: is_set(replace),
+    };
+    number(simulator::slots::set_action(block, is_set(side), machine, a))
+}
