@@ -46,3 +46,22 @@ pub record Told (w : List ℕ) (c : Call) (n : ℕ) (left : List ℕ) : Type 0 w
   pub answer : Answer
   pub outcome : Outcome w c answer left
   pub number : n ≡ numberIn answer
+
+-- ---- opening
+
+-- a rate is absent where its flag is 0
+abbrev pub rateFor : ℕ → ℕ → Option ℕ
+rateFor given rate = if isSet given then some rate else none
+
+abbrev pub sideOpening : ℕ → ℕ → ℕ → Fixed
+sideOpening action reporting machines = record { actionDelay = action; reportingDelay = reporting; machines = machines }
+
+abbrev pub openingFor : ℕ → Option ℕ → Option ℕ → ℕ → Fixed → Fixed → Opening
+openingFor delay networkRate queueRate window c s =
+    record { settings = record { networkDelay = delay; networkRate = networkRate; queueRate = queueRate; window = window }; client = c; server = s }
+
+-- opening the words w: it keeps the promise of opening, and n is the number of its answer
+pub record OpenTold (w : List ℕ) (o : Opening) (n : ℕ) (left : List ℕ) : Type 0 where
+  pub answer : Answer
+  pub outcome : Opens w o answer left
+  pub number : n ≡ numberIn answer

@@ -6,6 +6,8 @@ ghost use Rattle.event.specs.Answers.{answerOf};
 ghost use Rattle.layout.specs.Decides.{Decides};
 ghost use Rattle.layout.specs.Accepted.{Accepted};
 ghost use Rattle.maybenot_core.specs.Told.{isSet, eventFor, actionFor, slotFor, numberIn, Told};
+ghost use Rattle.maybenot_core.specs.Told.{rateFor, sideOpening, openingFor, OpenTold};
+ghost use Rattle.simulator.specs.Openings.{rateOf};
 use event::ActionKind;
 use event::Kind;
 use event::ScheduledAction;
@@ -13,6 +15,9 @@ use event::SimEvent;
 use event::answer::Answer;
 use moment::Length;
 use moment::Moment;
+use simulator::open::Opening;
+use simulator::open::Rate;
+use simulator::open::SideOpening;
 
 fn is_set(n: u64) -> bool
     ensures { λ b. ⌜ b ≡ isSet n ⌝ }
@@ -117,4 +122,56 @@ pub extern "C" fn maybenot_core_set_action(
         replace: is_set(replace),
     };
     number(simulator::slots::set_action(block, is_set(side), machine, a))
+}
+
+// A rate, absent where its flag is 0.
+fn rate(given: u64, rate: u64) -> Rate
+    ensures { λ r. ⌜ rateOf r ≡ rateFor given rate ⌝ }
+{
+    if given == 0 {
+        return Rate::Absent;
+    }
+    Rate::Packets(rate)
+}
+
+// A state is opened in the lent words, whatever they held. A rate is absent where its flag is 0.
+#[no_mangle]
+pub extern "C" fn maybenot_core_open(
+    block: &mut [u64],
+    delay: u64,
+    limited: u64,
+    packets: u64,
+    queued: u64,
+    queue: u64,
+    window: u64,
+    action0: u64,
+    action1: u64,
+    reporting0: u64,
+    reporting1: u64,
+    machines0: u64,
+    machines1: u64,
+) -> u64
+    ensures { λ n. ⌜ OpenTold (now (block .entry)) (openingFor delay (rateFor limited packets) (rateFor queued queue) window (sideOpening action0 reporting0 machines0) (sideOpening action1 reporting1 machines1)) n (now (block .exit)) ⌝ }
+{
+    let network_rate = rate(limited, packets);
+    let queue_rate = rate(queued, queue);
+    let client = SideOpening {
+        action_delay: Length(action0),
+        reporting_delay: Length(reporting0),
+        machines: machines0,
+    };
+    let server = SideOpening {
+        action_delay: Length(action1),
+        reporting_delay: Length(reporting1),
+        machines: machines1,
+    };
+    let o = Opening {
+        network_delay: Length(delay),
+        network_rate,
+        queue_rate,
+        window: Length(window),
+        client,
+        server,
+    };
+    number(simulator::open::open(block, o))
 }
