@@ -2,7 +2,7 @@
 """stored.py LISTS ORACLE OUT: writes OUT/stdin and OUT/stdout, the stored lists of the program forecast.
 
 No answer comes from forecast: each is written here by hand from document 01, docs/LAYOUT.md and docs/CALLS.md,
-or printed by the Rust (ORACLE) on the lists of LISTS (starred.txt, edges.txt). What the Rust cannot say of a
+or printed by the Rust (ORACLE) on the lists of LISTS (starred.txt, edges.txt, sample.txt). What the Rust cannot say of a
 state, the number of free records, is R less the records that it shows. A comment before each group says which."""
 import pathlib, subprocess, sys
 
@@ -574,6 +574,7 @@ def main():
     acceptance()
     sums()
     rust(lists, oracle, "edges.txt", "the edges of the rules, behaviour that looks odd, the misreadings")
+    rust(lists, oracle, "sample.txt", "a sample of the random lists of every kind")
     note("By hand: a last line without a newline, with a CR, is a line too")
     opened(1)
     say("pick_next 7\r", "nothing rounds 1")
