@@ -4,10 +4,10 @@ ghost use mathlib.Core.Bool.{Bool};
 ghost use Prim.Native.Nat.{ℕ, _<_, _≤_};
 ghost use lib.ListN.{length};
 ghost use Rattle.layout.specs.Decides.{Decides};
-ghost use Rattle.layout.specs.Header.{Limited, ActionOk, SlotOk, SlotsOk, held, reserved as reservedOf};
+ghost use Rattle.layout.specs.Header.{Limited, ActionOk, SlotEmpty, SlotOk, SlotsOk, held, reserved as reservedOf};
 
-// 2^62 - 1, for moments, sums and the round total.
-const MOMENT: u64 = 4_611_686_018_427_387_903;
+// 2^62 - 1, for moments, sums, the lengths of aggregates and the round total.
+pub const MOMENT: u64 = 4_611_686_018_427_387_903;
 
 // A block end and a timer are held as their moment + 1.
 const MOMENT_AFTER: u64 = MOMENT + 1;
@@ -17,6 +17,15 @@ const DURATION: u64 = 1_000_000_000_000;
 
 // For a rate, 0 where it is absent.
 const RATE: u64 = 4_294_967_295;
+
+// The machines of a side.
+const MACHINES: u64 = 16;
+
+// A bypassable flag is set or not.
+const FLAG: u64 = 1;
+
+// The ended mark is set or not: a state that is marked ended is accepted too.
+const ENDED: u64 = 1;
 
 // The limit of each of the words 0 to 17.
 const LIMITS: [u64; 18] = [
@@ -28,15 +37,15 @@ const LIMITS: [u64; 18] = [
     DURATION,
     DURATION,
     DURATION,
-    16,
-    16,
+    MACHINES,
+    MACHINES,
     MOMENT,
     MOMENT,
     MOMENT_AFTER,
     MOMENT_AFTER,
-    1,
-    1,
-    1,
+    FLAG,
+    FLAG,
+    ENDED,
     MOMENT,
 ];
 
@@ -45,9 +54,10 @@ pub fn limited(header: &[u64]) -> bool
     requires { ⌜ length (now header) ≡ 256 ⌝ }
     ensures { λ r. ⌜ Decides (Limited (now (header .entry))) r ⌝ }
 {
+    let limits = LIMITS;
     let mut i = 0;
     while i < 18 {
-        if header[i] > LIMITS[i] {
+        if header[i] > limits[i] {
             return false;
         }
         i += 1;
@@ -87,11 +97,31 @@ pub fn action_ok(word: u64, moment: u64, duration: u64) -> bool
     moment == 0
 }
 
+// Whether slot j holds nothing. Most slots do, and such a slot is in order whatever its side's machine count.
+fn slot_empty(header: &[u64], j: usize) -> bool
+    requires { ⌜ (length (now header) ≡ 256) × (j < 32) ⌝ }
+    ensures { λ r. ⌜ Decides (SlotEmpty (now (header .entry)) j) r ⌝ }
+{
+    if header[64 + j] != 0 {
+        return false;
+    }
+    if header[96 + 3 * j] != 0 {
+        return false;
+    }
+    if header[97 + 3 * j] != 0 {
+        return false;
+    }
+    header[98 + 3 * j] == 0
+}
+
 // Whether slot j is in order.
 fn slot_ok(header: &[u64], j: usize) -> bool
     requires { ⌜ (length (now header) ≡ 256) × (j < 32) ⌝ }
     ensures { λ r. ⌜ Decides (SlotOk (now (header .entry)) j) r ⌝ }
 {
+    if slot_empty(header, j) {
+        return true;
+    }
     let timer = header[64 + j];
     if timer > MOMENT_AFTER {
         return false;

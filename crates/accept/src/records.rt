@@ -3,11 +3,10 @@ ghost use mathlib.Core.Path.{_≡_};
 ghost use Prim.Native.Nat.{ℕ, _<_, _≤_};
 ghost use lib.ListN.{length};
 ghost use Rattle.layout.specs.Decides.{Decides};
-ghost use Rattle.layout.specs.Records.{KindOk, MachineOk, EventOk, AggregateOk, StampOk, RecordOk, Follows, Chain, ChainsOk, chainCount, countsTo, countOf};
+ghost use Rattle.layout.specs.Records.{KindOk, MachineBound, MachineOk, EventOk, AggregateOk, StampOk, RecordOk, Follows, Chain, ChainsOk, chainCount, countsTo, countOf};
+use crate::header::MOMENT;
+use queue_event::tag;
 use queue_event::words;
-
-// 2^62 - 1, for moments and the lengths of aggregates.
-const MOMENT: u64 = 4_611_686_018_427_387_903;
 
 // 2 * 10^12, for the delay of an event.
 const DELAY: u64 = 2_000_000_000_000;
@@ -35,20 +34,27 @@ fn kind_ok(place: u64, kind: u64, bypass: u64) -> bool
     bypass == place - 2
 }
 
-// Whether an event of this kind may name this machine, of a side with so many: kinds 2, 6, 8 and 9 have one.
+// How many machines an event of this kind may name, of a side with so many: kinds 2, 6, 8 and 9 have one, all others name 0.
+fn machine_bound(kind: u64, machines: u64) -> u64
+    ensures { λ r. ⌜ MachineBound kind machines r ⌝ }
+{
+    if kind == 2 {
+        return machines;
+    }
+    if kind == 6 {
+        return machines;
+    }
+    if kind > 7 {
+        return machines;
+    }
+    1
+}
+
+// Whether an event of this kind may name this machine: one comparison, whatever the kind, since kinds come mixed in a chain.
 fn machine_ok(kind: u64, machines: u64, machine: u64) -> bool
     ensures { λ r. ⌜ Decides (MachineOk kind machines machine) r ⌝ }
 {
-    if kind == 2 {
-        return machine < machines;
-    }
-    if kind == 6 {
-        return machine < machines;
-    }
-    if kind > 7 {
-        return machine < machines;
-    }
-    machine == 0
+    machine < machine_bound(kind, machines)
 }
 
 // Whether the words are those of an event, in its place.
@@ -65,14 +71,14 @@ fn event_ok(place: u64, machines: u64, moment: u64, span: u64, tag: u64) -> bool
     if tag > 65_535 {
         return false;
     }
-    if tag / 2048 % 2 != 0 {
+    if tag::side_field(tag) != 0 {
         return false;
     }
-    let kind = tag / 16 % 16;
-    if !kind_ok(place, kind, tag / 512 % 2) {
+    let kind = tag::kind(tag);
+    if !kind_ok(place, kind, tag::bypass_field(tag)) {
         return false;
     }
-    if !machine_ok(kind, machines, tag / 4096 % 16) {
+    if !machine_ok(kind, machines, tag::machine(tag)) {
         return false;
     }
     true
@@ -88,10 +94,10 @@ fn aggregate_ok(moment: u64, span: u64, tag: u64) -> bool
     if span > MOMENT {
         return false;
     }
-    if tag > 4095 {
-        return false;
+    if tag == tag::aggregate_tag(true) {
+        return true;
     }
-    tag % 2048 == 11
+    tag == tag::aggregate_tag(false)
 }
 
 // Whether the words are those of a stamp.
@@ -112,7 +118,7 @@ pub fn record_ok(k: u64, machines: u64, moment: u64, span: u64, tag: u64) -> boo
     requires { ⌜ k < chainCount ⌝ }
     ensures { λ r. ⌜ Decides (RecordOk k machines moment span tag) r ⌝ }
 {
-    if tag % 16 != k {
+    if tag::mark(tag) != k {
         return false;
     }
     if k == 0 {
@@ -165,7 +171,7 @@ fn chain_ok(records: &[u64], k: u64, machines: u64, head: u64, count: u64) -> bo
         if !record_ok(k, machines, m, words::get(records, at, 2), tag) {
             return false;
         }
-        let r = tag / 16 % 16;
+        let r = tag::kind(tag);
         if !follows(k, moment, rank, m, r) {
             return false;
         }

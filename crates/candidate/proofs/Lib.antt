@@ -3,6 +3,5 @@ pub mod PlannedLaws
 pub mod AheadLaws
 pub mod PickLaws
 pub mod OrderLaws
-pub mod TwoLaws
 pub mod SumLaws
 pub mod ActionSums

@@ -3,18 +3,16 @@ use Prim.Native.Nat.{ℕ, max, _+_, _-_, _^_, _<_, _≤_}
 use mathlib.Core.Path.{_≡_, refl, sym, ap, ap₂, subst, _∙_}
 use mathlib.Core.Bool.{Bool, true, false, not, _&&_}
 use mathlib.Core.List.{List, [], _∷_}
-use mathlib.Core.Option.{none, some, Option·getD}
+use mathlib.Core.Option.{Option, none, some, Option·getD}
 use native.Mathlib.Omega.{arith}
 use lib.Dec.{leb, ltb}
 use lib.ListN.{getD}
 use borrow.Author.Tests.{not-true, not-false, le-leb, lt-leb, leb-true, leb-false}
 use Rattle.rules.specs.Basics.{if_then_else_}
-use Rattle.rules.specs.State.{Event, Held}
 use Rattle.rules.specs.Limits.{momentLimit, durationLimit}
 use Rattle.rules.specs.Aggregates.{baseMoment, onExpire, aggregatesOf}
 use Rattle.rules.specs.ChoiceHeads.{waitingHead}
 use Rattle.rules.specs.ChoiceRound.{fits, someSum, alwaysSums, candidateSums, raisedSum, heldUp, aBlock}
-use Rattle.moment.specs.declared.Moment.{Moment}
 use Rattle.event.specs.declared.AggregateDelay.{AggregateDelay}
 use Rattle.event.specs.HandedIn.{sideOf, aggregateIn}
 use Rattle.layout.specs.Header.{Limited}
@@ -28,15 +26,14 @@ use Rattle.queue.specs.Heads.{foundOf, headFrom, sideHeld, Peeked}
 use Rattle.queue_peek.specs.declared.blocks.BlockEnd.{BlockEnd}
 use Rattle.queue_peek.specs.Decoded.{blockFrom}
 use Rattle.delay.specs.declared.Base.{Base}
-use Rattle.delay.specs.declared.Base.the-variants.{Nothing as NoBase, At}
 use Rattle.delay.specs.declared.Margins.{Margins}
 use Rattle.delay.specs.declared.Delayed.{Delayed}
-use Rattle.delay.specs.Tests.{baseOf, delayedOf, usualMargins, expireOver}
+use Rattle.delay.specs.Tests.{baseOf, delayedOf, sumsIn, usualMargins, expireOver}
+use Rattle.network.specs.Due.{moments}
 use Rattle.queue.proofs.HeadsSides.{sum-held}
 use Rattle.queue_peek.proofs.BlockLaws.{end-small}
 use Rattle.delay.proofs.Rules.{expire-usual}
-use Rattle.candidate.specs.TwoDue.{moments}
-use Rattle.candidate.proofs.TwoLaws.{fits-append}
+use Rattle.network.proofs.DueLaws.{fits-append}
 
 and-one : (t : Bool) → t ≡ t && true
 and-one true = refl
@@ -65,21 +62,14 @@ network-within h rs g = g .limits 0 (omega arith)
 
 -- ---- the base head plus the sum
 
-no-base : (l : List (Held Event)) (m n : ℕ) → none ≡ baseMoment m l → none ≡ baseMoment n l
-no-base [] m n e = refl
-no-base (x ∷ l) m n e = let z : _≡_ {A = ℕ} 0 1 = cc in absurd (omega arith)
+some-sum : (o : Option ℕ) → sumsIn o ≡ someSum o
+some-sum none = refl
+some-sum (some n) = refl
 
-module _ (h rs : List ℕ) (b : Bool) (sum : ℕ) (o : Base) (eo : baseOf o ≡ baseMoment sum (sideHeld h rs b .queues .base)) where
-  pub base-absent : o ≡ NoBase → true ≡ fits (someSum (baseMoment (sideHeld h rs b .sum) (sideHeld h rs b .queues .base)))
-  unfolding fits
-  base-absent e = ap (λ x. fits (someSum x)) (no-base (sideHeld h rs b .queues .base) sum (sideHeld h rs b .sum) (ap baseOf (sym e) ∙ eo))
-
-  pub base-present : (m : Moment) (r : Bool) → sum ≡ getD h (10 + sideNo (sideOf b)) 0 → o ≡ At m → r ≡ leb (m .0) momentLimit
-      → r ≡ fits (someSum (baseMoment (sideHeld h rs b .sum) (sideHeld h rs b .queues .base)))
-  unfolding fits
-  base-present m r es e er =
-      er ∙ and-one (leb (m .0) momentLimit)
-      ∙ ap (λ x. fits (someSum x)) (ap baseOf (sym e) ∙ eo ∙ ap (λ n. baseMoment n (sideHeld h rs b .queues .base)) (es ∙ sym (sum-held h rs (sideOf b))))
+pub base-sum : (h rs : List ℕ) (b : Bool) (sum : ℕ) (o : Base) (r : Bool) → sum ≡ getD h (10 + sideNo (sideOf b)) 0 → baseOf o ≡ baseMoment sum (sideHeld h rs b .queues .base)
+    → r ≡ fits (sumsIn (baseOf o)) → r ≡ fits (someSum (baseMoment (sideHeld h rs b .sum) (sideHeld h rs b .queues .base)))
+base-sum h rs b sum o r es eo er =
+    er ∙ ap fits (some-sum (baseOf o)) ∙ ap (λ x. fits (someSum x)) (eo ∙ ap (λ n. baseMoment n (sideHeld h rs b .queues .base)) (es ∙ sym (sum-held h rs (sideOf b))))
 
 -- ---- the sums of every round
 

@@ -1,7 +1,6 @@
 -- The code's candidate as the rules' own, and what is known of one that was found. Assumes nothing.
 use Prim.Native.Nat.{ℕ, _<_}
 use mathlib.Core.Path.{_≡_}
-use mathlib.Core.Bool.{Bool}
 use mathlib.Core.List.{List}
 use mathlib.Core.Option.{some}
 use Rattle.rules.specs.State.{Action, inRecord, side}
@@ -46,10 +45,6 @@ nextOf h (Take c) = candidateOf h c
 nextOf h Nothing = none-left
 
 -- ---- what is known of a candidate that was found in the words h and rs
-
--- a slot of the sixteen of its side
-abbrev pub SlotIn : Bool → ℕ → Type 0
-SlotIn client machine = machine < 16
 
 unfoldable pub Stands : List ℕ → List ℕ → Candidate → Type 0
 Stands h rs (Aggregate a) = 0 < countOf h 11

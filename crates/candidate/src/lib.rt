@@ -7,7 +7,6 @@ use moment::Moment;
 use queue::peek::Head;
 use queue_peek::blocks::BlockEnd;
 
-pub mod aggregates;
 pub mod first;
 pub mod slots;
 pub mod sums;

@@ -19,13 +19,12 @@ ghost use Rattle.delay.specs.Tests.{delayedOf};
 ghost use Rattle.candidate.specs.Candidates.{actionValue, candidateOf, Stands};
 use crate::Candidate;
 use crate::Planned;
-use crate::aggregates;
-use delay::Base;
 use delay::Delayed;
 use event::ActionKind;
 use event::AggregateDelay;
 use moment::Length;
 use moment::Moment;
+use network::aggregate;
 use queue::header;
 use queue::peek;
 use queue::peek::Found;
@@ -37,11 +36,7 @@ fn base_fits(head: &[u64], rest: &[u64], client: bool) -> bool
     ensures { λ r. ⌜ r ≡ fits (someSum (baseMoment (sideHeld (now (head .entry)) (now (rest .entry)) client .sum) (sideHeld (now (head .entry)) (now (rest .entry)) client .queues .base))) ⌝ }
 {
     let base_sum = header::of_side(head, header::SUM, client);
-    let base = delay::base_moment(head, rest, client, Length(base_sum));
-    let Base::At(m) = base else {
-        return true;
-    };
-    m.fits()
+    aggregate::base_fits(delay::base_moment(head, rest, client, Length(base_sum)))
 }
 
 // The sums of every round: the round total, and both base heads plus their side's sum.
@@ -100,7 +95,7 @@ fn block_fits(head: &[u64], rest: &[u64], time: Moment, k: BlockEnd) -> bool
         return false;
     }
     let by = held_up(head, rest, k.client, end);
-    aggregates::fit(Length(head[0]), k.client, end, by)
+    aggregate::fit(Length(head[0]), k.client, end, by)
 }
 
 // Action and reporting delay of a side together.

@@ -2,66 +2,15 @@
 ghost use mathlib.Core.Path.{_≡_};
 ghost use Prim.Native.Nat.{_≤_, _<_};
 ghost use lib.ListN.{length};
-
-mod calls;
-mod line;
-mod lists;
-mod text;
-mod words;
-
+use answer_text::text;
+use call_list::line;
+use call_list::reading::Scan;
 use libc::STDIN_FILENO;
-use line::Scan;
 
 // What a turn leaves: the turns still to make, 0 where the input has ended.
 struct Turn {
     left: u64,
     scan: Scan,
-}
-
-// One byte of the input.
-fn next_byte(
-    s: Scan,
-    b: u8,
-    state: &mut [u64],
-    out: &mut [u8],
-    name: &mut [u8; 24],
-    forms: &mut [u64; 12],
-    values: &mut [u64; 12],
-) -> Scan
-    requires { ⌜ (s .lent ≤ length (now state)) × (s .used ≤ length (now out)) ⌝ }
-    ensures { λ r. ⌜ (r .lent ≤ length (now (state .exit))) × (r .used ≤ length (now (out .exit))) ⌝ }
-{
-    if s.place == line::ARGUMENT {
-        if line::is_digit(b) {
-            return s.with_digit(b);
-        }
-    }
-    if b == b'\n' {
-        return line::done(s, state, out, name, forms, values);
-    }
-    line::fed(s, b, name, forms, values)
-}
-
-// One piece of the input.
-fn scan_piece(
-    input: &[u8],
-    start: Scan,
-    state: &mut [u64],
-    out: &mut [u8],
-    name: &mut [u8; 24],
-    forms: &mut [u64; 12],
-    values: &mut [u64; 12],
-) -> Scan
-    requires { ⌜ (start .lent ≤ length (now state)) × (start .used ≤ length (now out)) ⌝ }
-    ensures { λ r. ⌜ (r .lent ≤ length (now (state .exit))) × (r .used ≤ length (now (out .exit))) ⌝ }
-{
-    let mut s = start;
-    let mut i = 0;
-    while i < input.len() {
-        s = next_byte(s, input[i], state, out, name, forms, values);
-        i += 1;
-    }
-    s
 }
 
 // Reads a piece and takes it in.
@@ -83,7 +32,7 @@ fn turn_once(
     if n == 0 {
         return Turn { left: 0, scan: s };
     }
-    let scan = scan_piece(&input[0..n], s, state, out, name, forms, values);
+    let scan = line::scan_piece(&input[0..n], s, state, out, name, forms, values);
     Turn {
         left: turns - 1,
         scan,
@@ -106,7 +55,7 @@ fn run(
         s = t.scan;
         turns = t.left;
     }
-    let last = scan_piece(b"\n", s, state, out, name, forms, values);
+    let last = line::scan_piece(b"\n", s, state, out, name, forms, values);
     text::flush(out, last.used);
 }
 

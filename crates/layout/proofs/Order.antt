@@ -11,8 +11,9 @@ use Rattle.rules.specs.Queueing.{insert}
 use Rattle.queue_event.specs.Chain.{pick, rankOf, Node}
 use Rattle.queue_event.specs.Order.{stays, insertSorted}
 use Rattle.queue_event.specs.Tag.{kindField}
+use Rattle.event.specs.Values.{kindAt}
 use Rattle.layout.specs.Records.{RecordOk, Follows, Fit, Ordered}
-use Rattle.layout.specs.Layout.{kindAt, eventFrom, heldEvent}
+use Rattle.layout.specs.Layout.{eventFrom, heldEvent}
 
 -- ---- the kind of a number has that number
 

@@ -15,8 +15,9 @@ use Rattle.laws.specs.Order.{inOrder, eventBefore, aggregateBefore}
 use Rattle.laws.specs.Sound.{MachineOk as HeldMachine, EventOk as HeldEvent, AggregateOk as HeldAggregate}
 use Rattle.queue_event.specs.Chain.{Node, rankOf}
 use Rattle.queue_event.specs.Tag.{kindField}
+use Rattle.event.specs.Values.{kindAt}
 use Rattle.layout.specs.Records.{MachineOk, Fit, Ordered}
-use Rattle.layout.specs.Layout.{kindAt, eventFrom, aggregateFrom, heldEvent, heldAggregate, heldStamp}
+use Rattle.layout.specs.Layout.{eventFrom, aggregateFrom, heldEvent, heldAggregate, heldStamp}
 use Rattle.layout.specs.Shape.{Shapes}
 use Rattle.layout.proofs.Order.{rank-kind, Ranked}
 

@@ -97,19 +97,20 @@ module _ {P : Type 0} (rs : List ℕ) (k c n m r at : ℕ) (walk : Rest P (Chain
     pub walk-unfit : not a ≡ true → Decides P false
     walk-unfit bad = no-link (λ l. refused fine bad (rw (em, el, et) (l .holds)))
 
-    pub walk-disorder : Decides (Follows k m r m′ (kindField t′)) b → not b ≡ true → Decides P false
-    walk-disorder after bad = no-link (λ l. refused after bad (rw (em, et) (l .order)))
+    pub walk-disorder : (rank : ℕ) → rank ≡ kindField t′ → Decides (Follows k m r m′ rank) b → not b ≡ true → Decides P false
+    walk-disorder rank er after bad = no-link (λ l. refused after bad (rw er (rw (em, et) (l .order))))
 
     -- one turn
     pub walk-turn :
-        not a ≡ false → Decides (Follows k m r m′ (kindField t′)) b → not b ≡ false → (at ≡ 0 → ⊥) → at ≤ length rs / 4 → (next : ℕ) → next ≡ nextOf rs at
-        → Rest P (Chain rs k c (n - 1) m′ (kindField t′) next)
-    walk-turn good after ordered one inside next en =
-        rw (em, et, en)
+        not a ≡ false → (rank : ℕ) → rank ≡ kindField t′ → Decides (Follows k m r m′ rank) b → not b ≡ false → (at ≡ 0 → ⊥) → at ≤ length rs / 4
+        → (next : ℕ) → next ≡ nextOf rs at → Rest P (Chain rs k c (n - 1) m′ rank next)
+    walk-turn good rank er after ordered one inside next en =
+        rw er
+        (rw (em, et, en)
         (record {
           on = λ p. chain-rest rs k c n m r at some (walk .on p);
-          back = λ q. walk .back (chain-join rs k c n m r at some (record { within = record { one = omega arith; fits = omega arith }; holds = rw (em, el, et) at (passed fine good); order = rw (em, et) at (passed after ordered) }) q);
-        })
+          back = λ q. walk .back (chain-join rs k c n m r at some (record { within = record { one = omega arith; fits = omega arith }; holds = rw (em, el, et) at (passed fine good); order = rw (em, et) at (rw er at (passed after ordered)) }) q);
+        }))
 
 -- the end
 pub walk-ends : {P : Type 0} (rs : List ℕ) (k c n m r at : ℕ) → Rest P (Chain rs k c n m r at) → n ≡ 0 → Decides P (eqb at 0)

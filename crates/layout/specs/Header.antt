@@ -54,6 +54,13 @@ pub record ActionOk (word moment duration : ℕ) : Type 0 where
   pub padding : word % 4 ≤ 1 → duration ≡ 0
   pub empty : word % 4 ≡ 0 → (word ≡ 0) × (moment ≡ 0)
 
+-- "An empty slot is three zero words", and no timer
+pub record SlotEmpty (h : List ℕ) (j : ℕ) : Type 0 where
+  pub timer : timerOf h j ≡ 0
+  pub action : actionOf h j ≡ 0
+  pub moment : actionMoment h j ≡ 0
+  pub duration : actionDuration h j ≡ 0
+
 -- a slot's words; "slots at or above a side's machine count empty"
 pub record SlotOk (h : List ℕ) (j : ℕ) : Type 0 where
   pub timer : timerOf h j ≤ suc momentLimit

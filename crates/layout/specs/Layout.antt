@@ -2,13 +2,14 @@
 -- Assumes nothing.
 use Prim.Native.Nat.{ℕ, zero, suc, _+_, _*_, _/_, _%_}
 use mathlib.Core.List.{List, [], _∷_, map}
-use mathlib.Core.Option.{Option, none, some, Option·getD}
+use mathlib.Core.Option.{Option, none, some}
 use lib.Dec.{ltb, eqb}
 use lib.ListN.{length, getD, take, drop}
-use Rattle.rules.specs.Basics.{if_then_else_, Side, client, server, Kind, TunnelSent, kindOf}
+use Rattle.rules.specs.Basics.{if_then_else_, Side, client, server}
 use Rattle.rules.specs.State.{Event, Action, ActionKind, SendPadding, BlockOutgoing, Aggregate, Held, inRecord, SideState, State}
 use Rattle.queue_event.specs.Chain.{Rec, Node, nodes}
 use Rattle.queue_event.specs.Tag.{kindField, paddingField, bypassField, replaceField, sideField, machineField, flag}
+use Rattle.event.specs.Values.{kindAt}
 use Rattle.layout.specs.Records.{chainCount, headOf, countOf}
 
 -- ---- values from words
@@ -39,10 +40,6 @@ actionFrom (suc n) m d =
     some (record { kind = actionKindAt (suc n % 4); moment = m; duration = d; bypass = flag (suc n / 4 % 2); replace = flag (suc n / 8 % 2) })
 
 -- ---- values from records
-
--- the kind of a number; the numbers above 9 are none, and no accepted state has one
-abbrev pub kindAt : ℕ → Kind
-kindAt n = Option·getD (kindOf n) TunnelSent
 
 -- an event of side z: "an event's side is its chain's", "Length is the integration delay of an event"
 unfoldable pub eventFrom : Side → Rec → Event

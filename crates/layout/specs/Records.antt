@@ -28,6 +28,13 @@ machinesFor h k = machinesOf h (k / 6)
 
 -- ---- one record
 
+-- how many machines an event of this kind may name, of a side with so many: kinds 2, 6, 8 and 9 have one, all others name 0
+pub record MachineBound (kind machines bound : ℕ) : Type 0 where
+  pub padding : kind ≡ 2 → bound ≡ machines
+  pub blocking : kind ≡ 6 → bound ≡ machines
+  pub timer : 7 < kind → bound ≡ machines
+  pub none : (kind ≡ 2 → ⊥) → (kind ≡ 6 → ⊥) → kind ≤ 7 → bound ≡ 1
+
 -- "an event's machine (kinds 2, 6, 8, 9) is below its side's count; of other kinds it is 0"
 pub record MachineOk (kind machines machine : ℕ) : Type 0 where
   pub padding : kind ≡ 2 → machine < machines

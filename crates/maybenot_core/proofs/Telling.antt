@@ -9,7 +9,7 @@ use Rattle.rules.specs.State.{Fixed}
 use Rattle.rules.specs.Opening.{Opening}
 use Rattle.simulator.specs.Openings.{Opens}
 use Rattle.rules.specs.Basics.{if_then_else_, client, server}
-use Rattle.rules.specs.Arguments.{Call, push, set-action, clear-action, set-timer, clear-timer}
+use Rattle.rules.specs.Arguments.{Call, set-action, clear-action, set-timer, clear-timer}
 use Rattle.event.specs.HandedIn.{sideOf}
 use Rattle.event.specs.Answers.{answerOf}
 use Rattle.event.specs.declared.answer.Answer.{Answer}
@@ -47,12 +47,12 @@ module _ (z : Bool) (side machine : ℕ) (e : z ≡ isSet side) where
   action-call kind moment duration bypass replace b r eb er =
       λ d. set-action (slot-is d) (record { kind = kind; moment = moment; duration = duration; bypass = eb d; replace = er d })
 
-  pub push-call :
+  pub event-in :
       (kind moment delay padding bypass replace : ℕ) (p b r : Bool) → p ≡ isSet padding → b ≡ isSet bypass → r ≡ isSet replace
-      → push (record { kind = kind; moment = moment; delay = delay; side = sideOf z; padding = p; bypass = b; replace = r; machine = machine })
-      ≡ push (eventFor kind moment delay side padding bypass replace machine)
-  push-call kind moment delay padding bypass replace p b r ep eb er =
-      λ d. push (record { kind = kind; moment = moment; delay = delay; side = side-is z side e d; padding = ep d; bypass = eb d; replace = er d; machine = machine })
+      → record { kind = kind; moment = moment; delay = delay; side = sideOf z; padding = p; bypass = b; replace = r; machine = machine }
+      ≡ eventFor kind moment delay side padding bypass replace machine
+  event-in kind moment delay padding bypass replace p b r ep eb er =
+      λ d. record { kind = kind; moment = moment; delay = delay; side = side-is z side e d; padding = ep d; bypass = eb d; replace = er d; machine = machine }
 
 -- ---- opening
 

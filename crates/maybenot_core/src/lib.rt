@@ -1,13 +1,19 @@
 // The core for C and Rust: the calls of `simulator` on a lent block, with numbers. A side or a flag crosses as a number: 0 is server or no, every
-// other number client or yes. A call returns 0, or the number of its refusal.
+// other number client or yes. A call returns 0, or the number of its refusal. Choice and step write their answer into `out`; an `out` of another
+// length than the answer's is left as it was, and the call is made all the same.
 ghost use mathlib.Core.Path.{_≡_};
-ghost use Rattle.rules.specs.Arguments.{push, set-action, clear-action, set-timer, clear-timer};
+ghost use Rattle.rules.specs.Arguments.{push, set-action, clear-action, set-timer, clear-timer, pick-next, sim-network-stack};
+ghost use Rattle.event.specs.HandedIn.{eventIn};
 ghost use Rattle.event.specs.Answers.{answerOf};
 ghost use Rattle.layout.specs.Decides.{Decides};
 ghost use Rattle.layout.specs.Accepted.{Accepted};
 ghost use Rattle.maybenot_core.specs.Told.{isSet, eventFor, actionFor, slotFor, numberIn, Told};
 ghost use Rattle.maybenot_core.specs.Told.{rateFor, sideOpening, openingFor, OpenTold};
+ghost use Rattle.maybenot_core.specs.Answers.{choiceWords, stepWords, Answered};
 ghost use Rattle.simulator.specs.Openings.{rateOf};
+
+mod written;
+
 use event::ActionKind;
 use event::Kind;
 use event::ScheduledAction;
@@ -35,6 +41,31 @@ fn number(a: Answer) -> u64
     r.number
 }
 
+// The event that is handed in.
+fn event_from(
+    kind: u64,
+    moment: u64,
+    delay: u64,
+    side: u64,
+    padding: u64,
+    bypass: u64,
+    replace: u64,
+    machine: u64,
+) -> SimEvent
+    ensures { λ e. ⌜ eventIn e ≡ eventFor kind moment delay side padding bypass replace machine ⌝ }
+{
+    SimEvent {
+        kind: Kind(kind),
+        moment: Moment(moment),
+        delay: Length(delay),
+        client: is_set(side),
+        padding: is_set(padding),
+        bypass: is_set(bypass),
+        replace: is_set(replace),
+        machine,
+    }
+}
+
 // Whether the lent words are an accepted state.
 #[no_mangle]
 pub extern "C" fn maybenot_core_accepted(block: &[u64]) -> bool
@@ -58,16 +89,7 @@ pub extern "C" fn maybenot_core_push_sim(
 ) -> u64
     ensures { λ n. ⌜ Told (now (block .entry)) (push (eventFor kind moment delay side padding bypass replace machine)) n (now (block .exit)) ⌝ }
 {
-    let e = SimEvent {
-        kind: Kind(kind),
-        moment: Moment(moment),
-        delay: Length(delay),
-        client: is_set(side),
-        padding: is_set(padding),
-        bypass: is_set(bypass),
-        replace: is_set(replace),
-        machine,
-    };
+    let e = event_from(kind, moment, delay, side, padding, bypass, replace, machine);
     number(simulator::push::push_sim(block, e))
 }
 
@@ -174,4 +196,40 @@ pub extern "C" fn maybenot_core_open(
         server,
     };
     number(simulator::open::open(block, o))
+}
+
+// The next event. Its answer is ten words: 1 where an event was chosen, else 0; the rounds; the event's kind, moment, delay, side (1 client,
+// 0 server), padding, bypass, replace and machine, or eight zeros.
+#[no_mangle]
+pub extern "C" fn maybenot_core_pick_next(block: &mut [u64], time: u64, out: &mut [u64]) -> u64
+    ensures { λ n. ⌜ Answered (now (block .entry)) (pick-next time) choiceWords (now (out .entry)) n (now (block .exit)) (now (out .exit)) ⌝ }
+{
+    let a = simulator::choice::pick_next(block, Moment(time));
+    let words = written::choice_words(a);
+    written::write(out, &words);
+    written::choice_number(a)
+}
+
+// One network step on the event. Its answer is one word: 1 where there is network activity, else 0.
+#[no_mangle]
+pub extern "C" fn maybenot_core_sim_network_stack(
+    block: &mut [u64],
+    time: u64,
+    kind: u64,
+    moment: u64,
+    delay: u64,
+    side: u64,
+    padding: u64,
+    bypass: u64,
+    replace: u64,
+    machine: u64,
+    out: &mut [u64],
+) -> u64
+    ensures { λ n. ⌜ Answered (now (block .entry)) (sim-network-stack time (eventFor kind moment delay side padding bypass replace machine)) stepWords (now (out .entry)) n (now (block .exit)) (now (out .exit)) ⌝ }
+{
+    let e = event_from(kind, moment, delay, side, padding, bypass, replace, machine);
+    let a = simulator::step::sim_network_stack(block, e, Moment(time));
+    let words = written::step_words(a);
+    written::write(out, &words);
+    written::step_number(a)
 }

@@ -1,17 +1,17 @@
 -- Laws of a step of `PaddingSent`: its plan as the code makes it, and the rules' step by that plan. Assumes nothing.
-use Prim.Native.Nat.{ℕ, zero, suc, _+_, _≤_, _<_}
+use Prim.Native.Nat.{ℕ, zero, suc, _+_, _<_}
 use mathlib.Core.Path.{_≡_, refl, sym, ap, ap₂, _∙_}
 use mathlib.Core.Bool.{Bool, true, false, _&&_}
-use mathlib.Core.List.{List, [], _∷_}
+use mathlib.Core.List.{List}
+use mathlib.Core.Logic.{_⊎_, inl, inr}
 use mathlib.Core.Option.{Option, none, some}
-use native.Mathlib.Nat.{not-suc-le-zero}
 use native.Mathlib.Omega.{arith}
 use lib.Dec.{lit<}
 use lib.ListN.{length, getD}
 use Rattle.rules.specs.Basics.{Side, client, server, if_then_else_}
-use Rattle.rules.specs.State.{Chain, Event, Held, SideState, State, base, blocking, bypassable, internal, side, withSide}
+use Rattle.rules.specs.State.{Event, SideState, State, side, withSide}
 use Rattle.rules.specs.Aggregates.{aggregatesOf, onReplace, testSums}
-use Rattle.rules.specs.ChoiceHeads.{Head, headAs, firstBy, byMoment, waitingHead}
+use Rattle.rules.specs.ChoiceHeads.{Head, waitingHead}
 use Rattle.rules.specs.ChoiceRound.{fits, liftEvent, popSide}
 use Rattle.rules.specs.NetworkStep.{asPadding, replaceBy, replacing, stepPadding, unmoved}
 use Rattle.event.specs.declared.SimEvent.{SimEvent}
@@ -36,6 +36,7 @@ use Rattle.network.specs.declared.padding.Padding.the-variants.{Own, Dro
 use Rattle.network.specs.Due.{moments}
 use Rattle.network.specs.Plans.{paddedOf, PaddingPlan, own, dropped, takes, paddingOf, takesFrom, takenOver, planReplacing, paddingPlan, paddingSums, paddingRecords, paddingStep}
 use Rattle.network.proofs.DueLaws.{fits-append}
+use Rattle.network.proofs.WaitLaws.{waits-in}
 
 -- ---- the rules' step by its plan
 
@@ -65,69 +66,23 @@ padding-sums s now e = go (paddingPlan s now e) ∙ ap (λ r. fits (r .sums)) (s
 
 -- ---- the packet that waits stands in blocking or bypassable
 
--- the number of a chain, as the client's are
-abbrev numberOf : Chain → ℕ
-numberOf base = 1
-numberOf blocking = 2
-numberOf bypassable = 3
-numberOf internal = 4
-
-number-at : (n : ℕ) → 1 ≤ n → n ≤ 4 → numberOf (chainAt n) ≡ n
-number-at zero a b = absurd (not-suc-le-zero a)
-number-at (suc zero) a b = refl
-number-at (suc (suc zero)) a b = refl
-number-at (suc (suc (suc zero))) a b = refl
-number-at (suc (suc (suc (suc zero)))) a b = refl
-number-at (suc (suc (suc (suc (suc n))))) a b = absurd (omega arith)
-
-unfoldable Waits : Option Head → Type 0
-Waits none = Unit {0}
-Waits (some h) = (1 < numberOf (h .chain)) × (numberOf (h .chain) < 4)
-
-blocking-waits : (l : List (Held Event)) → Waits (headAs blocking 0 l)
-unfolding Waits headAs
-blocking-waits [] = tt
-blocking-waits (x ∷ l) = (lit< tt, lit< tt)
-
-bypassable-waits : (l : List (Held Event)) → Waits (headAs bypassable 0 l)
-unfolding Waits headAs
-bypassable-waits [] = tt
-bypassable-waits (x ∷ l) = (lit< tt, lit< tt)
-
-first-waits : (lt : Head → Head → Bool) (a b : Option Head) → Waits a → Waits b → Waits (firstBy lt a b)
-unfolding Waits firstBy
-first-waits lt none b p q = q
-first-waits lt (some a) none p q = p
-first-waits lt (some a) (some b) p q = go (lt b a)
-  where
-    go : (t : Bool) → Waits (if t then some b else some a)
-    go true = q
-    go false = p
-
-waiting-waits : (t : Bool) (x : SideState) → Waits (waitingHead t x)
-unfolding waitingHead
-waiting-waits true x = blocking-waits (x .queues .blocking)
-waiting-waits false x = first-waits byMoment _ _ (bypassable-waits (x .queues .bypassable)) (blocking-waits (x .queues .blocking))
-
 module _ (h rs : List ℕ) (c t : Bool) (f : Found) (y : HeadFound) (ef : f ≡ At y) (p : Peeked h rs c f (waitingHead t (sideHeld h rs c))) where
   stands : HeadOk h rs c y
   stands = stands-at h rs c f y ef (p .stands)
 
-  waits-at : Waits (some (headFrom y))
-  unfolding foundOf
-  waits-at = rw (sym (p .is) ∙ ap foundOf ef) at (waiting-waits t (sideHeld h rs c))
-
-  pub chain-low : 1 < y .chain
-  unfolding Waits headFrom
-  chain-low = rw (number-at (y .chain) (stands .low) (stands .high)) at (waits-at .0)
-
-  pub chain-high : y .chain < 4
-  unfolding Waits headFrom
-  chain-high = rw (number-at (y .chain) (stands .low) (stands .high)) at (waits-at .1)
-
-  pub found-is : waitingHead t (sideHeld h rs c) ≡ some (headFrom y)
+  found-is : waitingHead t (sideHeld h rs c) ≡ some (headFrom y)
   unfolding foundOf
   found-is = sym (p .is) ∙ ap foundOf ef
+
+  between : (n : ℕ) → (n ≡ 2) ⊎ (n ≡ 3) → (1 < n) × (n < 4)
+  between n (inl e) = (omega arith, omega arith)
+  between n (inr e) = (omega arith, omega arith)
+
+  pub chain-low : 1 < y .chain
+  chain-low = between (y .chain) (waits-in t (sideHeld h rs c) y found-is) .0
+
+  pub chain-high : y .chain < 4
+  chain-high = between (y .chain) (waits-in t (sideHeld h rs c) y found-is) .1
 
 -- ---- replacement
 

@@ -7,7 +7,7 @@ use mathlib.Core.Option.{Option, none, some}
 use native.Mathlib.Nat.{mul-le-mul, div-le-self}
 use native.Mathlib.Omega.{arith}
 use lib.Dec.{ltb}
-use lib.ListN.{length, drop}
+use lib.ListN.{length}
 use borrow.Author.Tests.{lt-ltb, le-ltb}
 use mir.Val.{Fits}
 use mir.Syntax.{w64}
@@ -22,12 +22,13 @@ use Rattle.layout.specs.Records.{headOf, countOf}
 use Rattle.layout.specs.Accepted.{Good}
 use Rattle.layout.specs.Layout.{stateFrom, chains, heldStamp, unlessZero}
 use Rattle.layout.specs.Changes.{sideNo}
+use Rattle.queue.specs.Stamps.{staleCount}
 use Rattle.queue_event.proofs.Laws.{chain-in, chain-next, nodes-next}
 use Rattle.layout.proofs.Banks.{chains-at}
 use Rattle.layout.proofs.Counts.{length-map, length-nodes}
 use Rattle.network.specs.declared.window.Rate.{Rate}
 use Rattle.network.specs.declared.window.Rate.the-variants.{Unlimited, Packets}
-use Rattle.network.specs.Stamps.{limitOf, Above, RatedAs, evictedCount, staleOf, Ages, FilledAs}
+use Rattle.network.specs.Stamps.{limitOf, Above, RatedAs, evictedCount, Ages, FilledAs}
 
 -- ---- rate_of
 
@@ -91,27 +92,13 @@ evict-le w now (t ∷ l) = go (ltb w (now - t .value)) (evict-le w now l)
     go true e = omega arith
     go false e = omega arith
 
-pub stale-count : (w now : ℕ) (l : List (Held ℕ)) → staleOf w now l ≡ evictedCount w now l
-unfolding staleOf
+pub stale-count : (w now : ℕ) (l : List (Held ℕ)) → staleCount w now l ≡ evictedCount w now l
 stale-count w now [] = refl
 stale-count w now (t ∷ l) = go (ltb w (now - t .value)) (stale-count w now l) (evict-le w now l)
   where
-    go : (b : Bool) → staleOf w now l ≡ evictedCount w now l → length (evict w now l) ≤ length l → (if b then suc (staleOf w now l) else 0) ≡ suc (length l) - length (if b then evict w now l else t ∷ l)
+    go : (b : Bool) → staleCount w now l ≡ evictedCount w now l → length (evict w now l) ≤ length l → (if b then suc (staleCount w now l) else 0) ≡ suc (length l) - length (if b then evict w now l else t ∷ l)
     go true e f = omega arith
     go false e f = omega arith
-
--- evict drops that many from the front
-evict-stale : (w now : ℕ) (l : List (Held ℕ)) → evict w now l ≡ drop (staleOf w now l) l
-unfolding staleOf
-evict-stale w now [] = refl
-evict-stale w now (t ∷ l) = go (ltb w (now - t .value)) (evict-stale w now l)
-  where
-    go : (b : Bool) → evict w now l ≡ drop (staleOf w now l) l → (if b then evict w now l else t ∷ l) ≡ drop (if b then suc (staleOf w now l) else 0) (t ∷ l)
-    go true e = e
-    go false e = refl
-
-pub evict-drop : (w now : ℕ) (l : List (Held ℕ)) → evict w now l ≡ drop (evictedCount w now l) l
-evict-drop w now l = evict-stale w now l ∙ ap (λ n. drop n l) (stale-count w now l)
 
 -- ---- the stamps of a side, as they stand in the words
 
@@ -129,12 +116,12 @@ module _ (h rs : List ℕ) (z : Side) (k : ℕ) (ek : k ≡ 5 + 5 * sideNo z) (l
   pub stamps-long : (n : ℕ) → n ≡ countOf h k → length (side (stateFrom h rs) z .stamps) ≡ n
   stamps-long n en = ap length (stamps-are n (headOf h k) en refl) ∙ length-map heldStamp (nodes rs n (headOf h k)) ∙ length-nodes rs n (headOf h k)
 
-  pub stale-is : (n f w now gone : ℕ) → n ≡ countOf h k → f ≡ headOf h k → gone ≡ staleOf w now (map heldStamp (nodes rs n f)) → gone ≡ evictedCount w now (side (stateFrom h rs) z .stamps)
-  stale-is n f w now gone en ef e = e ∙ ap (staleOf w now) (sym (stamps-are n f en ef)) ∙ stale-count w now (side (stateFrom h rs) z .stamps)
+  pub stale-is : (n f w now gone : ℕ) → n ≡ countOf h k → f ≡ headOf h k → gone ≡ staleCount w now (map heldStamp (nodes rs n f)) → gone ≡ evictedCount w now (side (stateFrom h rs) z .stamps)
+  stale-is n f w now gone en ef e = e ∙ ap (staleCount w now) (sym (stamps-are n f en ef)) ∙ stale-count w now (side (stateFrom h rs) z .stamps)
 
 -- ---- the loop
 
-pub ages-start : (h rs : List ℕ) (k n f w now : ℕ) → Good h rs → k ≤ 10 → f ≡ headOf h k → n ≡ countOf h k → Ages rs w now (staleOf w now (map heldStamp (nodes rs n f))) n n f 0
+pub ages-start : (h rs : List ℕ) (k n f w now : ℕ) → Good h rs → k ≤ 10 → f ≡ headOf h k → n ≡ countOf h k → Ages rs w now (staleCount w now (map heldStamp (nodes rs n f))) n n f 0
 ages-start h rs k n f w now g l ef en = record { mark = k; chain = rw (ef, en) (g .chains k (omega arith) .links); rest = omega arith; sum = omega arith }
 
 module _ (rs : List ℕ) (w now goal count n h gone : ℕ) where
@@ -145,14 +132,14 @@ module _ (rs : List ℕ) (w now goal count n h gone : ℕ) where
   ages-fits p l a = record { fits = let e = a .sum in omega (arith, e) }
 
   pub ages-end : n ≤ 0 → Ages rs w now goal count n h gone → gone ≡ goal
-  unfolding staleOf nodes
+  unfolding nodes
   ages-end p a =
       let z : n ≡ 0 = omega arith in
-      let e : gone + staleOf w now (map heldStamp (nodes rs 0 h)) ≡ goal = ap (λ m. gone + staleOf w now (map heldStamp (nodes rs m h))) (sym z) ∙ a .rest in omega (arith, e)
+      let e : gone + staleCount w now (map heldStamp (nodes rs 0 h)) ≡ goal = ap (λ m. gone + staleCount w now (map heldStamp (nodes rs m h))) (sym z) ∙ a .rest in omega (arith, e)
 
   module _ (b : Bool) (p : 0 < n) (eb : b ≡ ltb w (now - momentOf rs h)) (a : Ages rs w now goal count n h gone) where
-    ages-step : gone + (if b then suc (staleOf w now (map heldStamp (nodes rs (n - 1) (nextOf rs h)))) else 0) ≡ goal
-    unfolding staleOf recAt
+    ages-step : gone + (if b then suc (staleCount w now (map heldStamp (nodes rs (n - 1) (nextOf rs h)))) else 0) ≡ goal
+    unfolding recAt
     ages-step = rw eb (rw (nodes-next rs n h p) at (a .rest))
 
     pub ages-stop : b ≡ false → gone ≡ goal
@@ -172,7 +159,7 @@ module _ (rs : List ℕ) (w now goal count n h gone : ℕ) where
 pub stale-now : (rs : List ℕ) (r w now m d : ℕ) → m ≡ momentOf rs r → d ≡ now - m → ltb w d ≡ ltb w (now - momentOf rs r)
 stale-now rs r w now m d em ed = ap (ltb w) (ed ∙ ap (λ x. now - x) em)
 
-module _ (hd rs : List ℕ) (z : Side) (k n₀ f₀ w now n h gone : ℕ) (ek : k ≡ 5 + 5 * sideNo z) (lk : k ≤ 10) (en : n₀ ≡ countOf hd k) (ef : f₀ ≡ headOf hd k) (a : Ages rs w now (staleOf w now (map heldStamp (nodes rs n₀ f₀))) n₀ n h gone) where
+module _ (hd rs : List ℕ) (z : Side) (k n₀ f₀ w now n h gone : ℕ) (ek : k ≡ 5 + 5 * sideNo z) (lk : k ≤ 10) (en : n₀ ≡ countOf hd k) (ef : f₀ ≡ headOf hd k) (a : Ages rs w now (staleCount w now (map heldStamp (nodes rs n₀ f₀))) n₀ n h gone) where
   pub count-end : n ≤ 0 → gone ≡ evictedCount w now (side (stateFrom hd rs) z .stamps)
   count-end p = stale-is hd rs z k ek lk n₀ f₀ w now gone en ef (ages-end rs w now _ n₀ n h gone p a)
 

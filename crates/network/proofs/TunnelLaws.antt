@@ -20,7 +20,7 @@ use Rattle.event.specs.declared.SimEvent.{SimEvent}
 use Rattle.event.specs.HandedIn.{sideOf}
 use Rattle.layout.specs.Header.{Limited}
 use Rattle.layout.specs.Layout.{bank, stateFrom, unlessZero}
-use Rattle.queue.specs.Heads.{eventOf}
+use Rattle.event.specs.Values.{eventValue}
 use Rattle.delay.specs.declared.Delayed.the-variants.{Nothing as NotDelayed, By}
 use Rattle.delay.specs.declared.Base.the-variants.{Nothing as NoBase}
 use Rattle.delay.specs.declared.Margins.{Margins}
@@ -145,7 +145,7 @@ other-side true = refl
 other-side false = refl
 
 pub arrived : (e : SimEvent) (now network : ℕ) (reporting : Length) (m : Moment) → m .0 ≡ reported (sentOf e) now network (reporting .0)
-    → eventOf (record { kind = record { 0 = 3 }; moment = m; delay = reporting; client = not (e .client); padding = e .padding; bypass = false; replace = false; machine = 0 })
+    → eventValue (record { kind = record { 0 = 3 }; moment = m; delay = reporting; client = not (e .client); padding = e .padding; bypass = false; replace = false; machine = 0 })
     ≡ packet TunnelRecv (reported (sentOf e) now network (reporting .0)) (reporting .0) (other (sideOf (e .client))) (e .padding) false false
 arrived e now network reporting m em = ap₂ (λ t z. packet TunnelRecv t (reporting .0) z (e .padding) false false) em (other-side (e .client))
 
@@ -157,7 +157,7 @@ module _ (l : Link) (s : State) (e : SimEvent) (now : ℕ) (f : Filled) (k : Lin
 
   pub planned : (t : Tested) (v : SimEvent) (n : ℕ) → TestedAs t (testedBy (side s (sideOf (e .client))) (l .sum .0) (e .moment .0) (f .extra .0)) (testedSums (side s (sideOf (e .client))) (l .sum .0) (e .moment .0) (f .extra .0))
       → n ≡ f .extra .0 + l .delay .0
-      → eventOf v ≡ packet TunnelRecv (reported (sentOf e) now n (l .reporting .0)) (l .reporting .0) (other (sideOf (e .client))) (e .padding) false false
+      → eventValue v ≡ packet TunnelRecv (reported (sentOf e) now n (l .reporting .0)) (l .reporting .0) (other (sideOf (e .client))) (e .padding) false false
       → tunnelOf (record { stale = f .stale; by = t .by; base = t .base; received = v }) ≡ tunnelPlan s now (sentOf e)
   unfolding tunnelPlan
   planned t v n et en ev = λ i. record { stale = stale-is i; by = by-is i; formed = formed-is i; received = received-is i }
@@ -177,7 +177,7 @@ module _ (l : Link) (s : State) (e : SimEvent) (now : ℕ) (f : Filled) (k : Lin
       network-is : n ≡ extraAt s (length (evict (s .settings .window) now (x .stamps)) + 1) + s .settings .networkDelay
       network-is = en ∙ ap₂ _+_ extra-is (k .delay)
 
-      received-is : eventOf v ≡ receivedAs s now (sentOf e) (extraAt s (length (evict (s .settings .window) now (x .stamps)) + 1))
+      received-is : eventValue v ≡ receivedAs s now (sentOf e) (extraAt s (length (evict (s .settings .window) now (x .stamps)) + 1))
       received-is = ev ∙ ap₂ (λ a b. packet TunnelRecv (reported (sentOf e) now a b) b (other (sideOf (e .client))) (e .padding) false false) network-is (k .reporting)
 
 -- ---- fit

@@ -1,8 +1,15 @@
--- The aggregates of a delay, as the rules have them. Assumes nothing.
-use Prim.Native.Nat.{ℕ}
+-- The aggregates of a delay, as the rules have them, and what adding them asks. Assumes nothing.
+use Prim.Native.Nat.{ℕ, _≤_}
 use mathlib.Core.List.{List, [], _∷_, map}
+use mathlib.Core.Option.{Option}
+use lib.ListN.{length}
+use Rattle.rules.specs.Basics.{Side}
 use Rattle.rules.specs.State.{Aggregate}
+use Rattle.rules.specs.Limits.{momentLimit, durationLimit}
+use Rattle.rules.specs.Aggregates.{aggregatesOf}
 use Rattle.event.specs.HandedIn.{aggregateIn}
+use Rattle.layout.specs.Shape.{Shaped}
+use Rattle.queue.specs.Changes.{countIn}
 use Rattle.network.specs.declared.aggregate.TwoAggregates.{TwoAggregates}
 
 -- the client's, then the server's
@@ -12,3 +19,10 @@ bothOf b = aggregateIn (b .client) ∷ aggregateIn (b .server) ∷ []
 -- when they are due
 abbrev pub moments : List Aggregate → List ℕ
 moments l = map (λ (a : Aggregate). a .moment) l
+
+-- those of a delay at side z have free records
+pub record MayAggregate (w : List ℕ) (d : ℕ) (z : Side) (at : ℕ) (by : Option ℕ) : Type 0 where
+  pub shaped : Shaped w
+  pub free : length (aggregatesOf d z at by) ≤ countIn w 0
+  pub delay : d ≤ durationLimit
+  pub time : at ≤ momentLimit

@@ -19,7 +19,8 @@ use Rattle.rules.specs.NetworkStep.{Stepped, packet, unmoved, asPadding, letPas
 use Rattle.event.specs.declared.SimEvent.{SimEvent}
 use Rattle.event.specs.HandedIn.{eventIn}
 use Rattle.queue.specs.declared.peek.Head.{Head as HeadFound}
-use Rattle.queue.specs.Heads.{eventOf, headFrom}
+use Rattle.event.specs.Values.{eventValue}
+use Rattle.queue.specs.Heads.{headFrom}
 use Rattle.delay.specs.Tests.{delayedOf, baseOf, sumsIn, without}
 use Rattle.network.specs.declared.tunnel.Tunnel.{Tunnel}
 use Rattle.network.specs.declared.tunnel.Link.{Link}
@@ -69,7 +70,7 @@ pub record TunnelPlan : Type 0 where
   pub received : Event
 
 abbrev pub tunnelOf : Tunnel → TunnelPlan
-tunnelOf t = record { stale = t .stale; by = delayedOf (t .by); formed = sumsIn (baseOf (t .base)); received = eventOf (t .received) }
+tunnelOf t = record { stale = t .stale; by = delayedOf (t .by); formed = sumsIn (baseOf (t .base)); received = eventValue (t .received) }
 
 -- what the window adds where it has c stamps
 abbrev pub extraAt : State → ℕ → ℕ

@@ -1,15 +1,14 @@
 -- The window of stamps, as the rules have it. Assumes nothing.
-use Prim.Native.Nat.{ℕ, suc, _+_, _-_, _<_, _≤_}
+use Prim.Native.Nat.{ℕ, _+_, _-_, _<_, _≤_}
 use mathlib.Core.Path.{_≡_}
-use mathlib.Core.List.{List, [], _∷_, map}
+use mathlib.Core.List.{List, map}
 use mathlib.Core.Option.{Option, none, some}
-use lib.Dec.{ltb}
 use lib.ListN.{length}
-use Rattle.rules.specs.Basics.{if_then_else_}
 use Rattle.rules.specs.State.{Held}
 use Rattle.rules.specs.NetworkStep.{evict, extraOver}
 use Rattle.queue_event.specs.Chain.{Chain, nodes}
 use Rattle.layout.specs.Layout.{heldStamp}
+use Rattle.queue.specs.Stamps.{staleCount}
 use Rattle.network.specs.declared.window.Rate.{Rate}
 use Rattle.network.specs.declared.window.Rate.the-variants.{Unlimited, Packets}
 use Rattle.network.specs.declared.window.Filled.{Filled}
@@ -35,16 +34,11 @@ pub record RatedAs (r : Rate) (o : Option ℕ) : Type 0 where
 abbrev pub evictedCount : ℕ → ℕ → List (Held ℕ) → ℕ
 evictedCount window now l = length l - length (evict window now l)
 
--- the same as the loop counts them: the oldest, as long as they are more than the window old
-unfoldable pub staleOf : ℕ → ℕ → List (Held ℕ) → ℕ
-staleOf window now [] = 0
-staleOf window now (t ∷ l) = if ltb window (now - t .value) then suc (staleOf window now l) else 0
-
--- at each turn: what is left is a chain, and its stale stamps with those gone are all
+-- at each turn of the loop that counts the same: what is left is a chain, and its stale stamps with those gone are all
 pub record Ages (rs : List ℕ) (window now goal count n h gone : ℕ) : Type 0 where
   pub mark : ℕ
   pub chain : Chain rs mark n h
-  pub rest : gone + staleOf window now (map heldStamp (nodes rs n h)) ≡ goal
+  pub rest : gone + staleCount window now (map heldStamp (nodes rs n h)) ≡ goal
   pub sum : gone + n ≡ count
 
 -- ---- the window after a new stamp

@@ -1,25 +1,28 @@
-// The aggregates of `push_aggregate_delay`.
+// `push_aggregate_delay`: the aggregates of a delay, the sums and records that they take, and the same written.
 ghost use mathlib.Core.Path.{_≡_};
 ghost use Prim.Native.Nat.{ℕ, _+_, _-_, _*_, _≤_};
 ghost use lib.ListN.{length as lengthOf};
 ghost use mathlib.Core.Option.{some};
 ghost use Rattle.rules.specs.Basics.{Side, client as clientSide, server as serverSide};
 ghost use Rattle.rules.specs.Limits.{momentLimit, durationLimit};
-ghost use Rattle.rules.specs.Aggregates.{aggregatesOf};
+ghost use Rattle.rules.specs.Aggregates.{addAggregates, aggregatesOf};
 ghost use Rattle.rules.specs.ChoiceRound.{fits};
 ghost use Rattle.event.specs.HandedIn.{sideOf};
+ghost use Rattle.layout.specs.Layout.{stateOf};
+ghost use Rattle.queue.specs.Changes.{Leaves};
 ghost use Rattle.delay.specs.Tests.{delayedOf, baseOf, sumsIn};
-ghost use Rattle.network.specs.Due.{bothOf, moments};
+ghost use Rattle.network.specs.Due.{bothOf, moments, MayAggregate};
 use delay::Base;
 use delay::Delayed;
 use event::AggregateDelay;
 use moment::Length;
 use moment::Moment;
+use queue::records;
 
 // The two aggregates of a delay, one for each side's sum.
-pub struct TwoAggregates {
-    pub client: AggregateDelay,
-    pub server: AggregateDelay,
+struct TwoAggregates {
+    client: AggregateDelay,
+    server: AggregateDelay,
 }
 
 // A moment after `at` by what is left of a length after another.
@@ -73,7 +76,7 @@ fn at_server(delay: Length, at: Moment, length: Length) -> TwoAggregates
 }
 
 // The aggregates of a delay of this length at a side's end.
-pub fn both(delay: Length, client: bool, at: Moment, length: Length) -> TwoAggregates
+fn both(delay: Length, client: bool, at: Moment, length: Length) -> TwoAggregates
     requires { ⌜ delay .0 ≤ durationLimit ⌝ ∗ ⌜ at .0 ≤ momentLimit ⌝ }
     ensures { λ r. ⌜ bothOf r ≡ aggregatesOf (delay .0) (sideOf client) (at .0) (some (length .0)) ⌝ }
 {
@@ -118,4 +121,17 @@ pub fn base_fits(base: Base) -> bool
         return true;
     };
     m.fits()
+}
+
+// The aggregates of a delay join the pending ones, the client's first. No delay leaves all as it is.
+pub fn push_aggregate_delay(block: &mut [u64], delay: Length, client: bool, at: Moment, by: Delayed)
+    requires { ⌜ MayAggregate (now block) (delay .0) (sideOf client) (at .0) (delayedOf by) ⌝ }
+    ensures { λ _. ⌜ Leaves (now (block .entry)) (now (block .exit)) (addAggregates (stateOf (now (block .entry))) (aggregatesOf (delay .0) (sideOf client) (at .0) (delayedOf by))) ⌝ }
+{
+    let Delayed::By(length) = by else {
+        return;
+    };
+    let two = both(delay, client, at, length);
+    records::push_aggregate(block, two.client);
+    records::push_aggregate(block, two.server);
 }

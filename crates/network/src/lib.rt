@@ -1,4 +1,4 @@
-// The network of network.rs, as far as it reads: the aggregates of a delay, the window of stamps, and what a step is to do.
+// The network of network.rs, up to a step: `push_aggregate_delay`, the window of stamps, and what a step is to do.
 pub mod aggregate;
 pub mod padding;
 pub mod tunnel;

@@ -1,24 +1,19 @@
 // What a step of `PaddingSent` is to do: a packet of its own, or in its place one that waits. specs/Plans has the same of the rules'
 // stepPadding, proofs/PaddingLaws that the step is this and no more.
 ghost use mathlib.Core.Path.{_≡_};
-ghost use mathlib.Core.Bool.{true};
 ghost use mathlib.Core.List.{List};
 ghost use Prim.Native.Nat.{ℕ, _<_, _≤_};
 ghost use lib.ListN.{length};
-ghost use Rattle.rules.specs.Basics.{TunnelSent};
 ghost use Rattle.rules.specs.Limits.{momentLimit, durationLimit};
 ghost use Rattle.rules.specs.State.{side};
-ghost use Rattle.rules.specs.NetworkStep.{packet, letPass};
 ghost use Rattle.rules.specs.ChoiceRound.{fits};
 ghost use Rattle.event.specs.HandedIn.{sideOf};
 ghost use Rattle.layout.specs.Accepted.{Good};
 ghost use Rattle.layout.specs.Layout.{stateFrom};
-ghost use Rattle.queue.specs.Heads.{eventOf};
 ghost use Rattle.network.specs.Plans.{paddedOf, paddingOf, paddingPlan, paddingSums, paddingRecords, takenOver};
 use crate::aggregate;
 use delay::Base;
 use delay::Delayed;
-use event::Kind;
 use event::SimEvent;
 use moment::Length;
 use moment::Moment;
@@ -39,43 +34,6 @@ pub enum Padding {
     Own,
     Dropped,
     Replaces(Replaced),
-}
-
-// The padding as a `TunnelSent` of its own.
-pub fn own(e: SimEvent) -> SimEvent
-    ensures { λ r. ⌜ eventOf r ≡ packet TunnelSent (e .moment .0) (e .delay .0) (sideOf (e .client)) true (e .bypass) (e .replace) ⌝ }
-{
-    let moment = e.moment;
-    let delay = e.delay;
-    SimEvent {
-        kind: Kind(Kind::TUNNEL_SENT),
-        moment,
-        delay,
-        client: e.client,
-        padding: true,
-        bypass: e.bypass,
-        replace: e.replace,
-        machine: 0,
-    }
-}
-
-// The packet that is taken over: it stands in the bypassable queue.
-pub fn let_pass(w: SimEvent) -> SimEvent
-    ensures { λ r. ⌜ eventOf r ≡ letPass (eventOf w) ⌝ }
-{
-    let kind = w.kind;
-    let moment = w.moment;
-    let delay = w.delay;
-    SimEvent {
-        kind,
-        moment,
-        delay,
-        client: w.client,
-        padding: w.padding,
-        bypass: true,
-        replace: false,
-        machine: w.machine,
-    }
 }
 
 // The packet that waits is taken over.

@@ -14,7 +14,7 @@ ghost use Rattle.event.specs.HandedIn.{sideOf};
 ghost use Rattle.layout.specs.Accepted.{Good};
 ghost use Rattle.layout.specs.Header.{Limited};
 ghost use Rattle.layout.specs.Layout.{stateFrom};
-ghost use Rattle.queue.specs.Heads.{eventOf};
+ghost use Rattle.event.specs.Values.{eventValue};
 ghost use Rattle.delay.specs.Tests.{TestedAs};
 ghost use Rattle.network.specs.Plans.{sentOf, Sendable, LinkAs, testedBy, testedSums, tunnelOf, tunnelPlan, tunnelSums};
 use crate::aggregate;
@@ -115,7 +115,7 @@ fn reported(e: SimEvent, time: Moment, network: Length, reporting: Length) -> Mo
 // The packet at the recipient.
 fn arrival(e: SimEvent, time: Moment, network: Length, reporting: Length) -> SimEvent
     requires { ⌜ Sendable e (time .0) ⌝ ∗ ⌜ network .0 ≤ 65_537_000_000_000_000 ⌝ ∗ ⌜ reporting .0 ≤ durationLimit ⌝ }
-    ensures { λ r. ⌜ eventOf r ≡ packet TunnelRecv (reportedAt (sentOf e) (time .0) (network .0) (reporting .0)) (reporting .0) (other (sideOf (e .client))) (e .padding) false false ⌝ }
+    ensures { λ r. ⌜ eventValue r ≡ packet TunnelRecv (reportedAt (sentOf e) (time .0) (network .0) (reporting .0)) (reporting .0) (other (sideOf (e .client))) (e .padding) false false ⌝ }
 {
     let moment = reported(e, time, network, reporting);
     SimEvent {

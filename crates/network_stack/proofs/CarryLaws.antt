@@ -13,7 +13,8 @@ use Rattle.event.specs.HandedIn.{sideOf}
 use Rattle.event.specs.declared.SimEvent.{SimEvent}
 use Rattle.layout.specs.Layout.{stateOf}
 use Rattle.queue.specs.Changes.{Leaves, countIn}
-use Rattle.queue.specs.Pushes.{MayPush, eventValue}
+use Rattle.queue.specs.Pushes.{MayPush}
+use Rattle.event.specs.Values.{eventValue}
 use Rattle.delay.specs.Tests.{delayedOf}
 use Rattle.network.specs.declared.padding.Padding.{Padding}
 use Rattle.network.specs.declared.tunnel.Tunnel.{Tunnel}

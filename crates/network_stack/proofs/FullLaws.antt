@@ -28,7 +28,7 @@ use Rattle.layout.specs.Accepted.{Accepted, room}
 use Rattle.layout.specs.Header.{reserved as reservedIn}
 use Rattle.layout.specs.Layout.{stateOf}
 use Rattle.queue.specs.Changes.{countIn}
-use Rattle.queue.specs.Pushes.{eventValue}
+use Rattle.event.specs.Values.{eventValue}
 use Rattle.delay.specs.Tests.{delayedOf}
 use Rattle.network.specs.declared.padding.Padding.{Padding}
 use Rattle.network.specs.declared.tunnel.Tunnel.{Tunnel}

@@ -1,5 +1,5 @@
-pub mod AggregateLaws
 pub mod EvictLaws
+pub mod WindowLaws
 pub mod PacketLaws
 pub mod TakeLaws
 pub mod MakeLaws

@@ -1,18 +1,16 @@
 -- Laws of a plan that is carried out: what is left is the rules' step of `PaddingSent` and of `TunnelSent`. Assumes nothing.
-use Prim.Native.Nat.{ℕ, suc, _+_, _-_, _≤_, zero, _<_}
+use Prim.Native.Nat.{ℕ, _+_, _-_, _≤_}
 use mathlib.Core.Path.{_≡_, refl, sym, ap, ap₂, subst, _∙_}
 use mathlib.Core.Bool.{Bool, true, false}
-use mathlib.Core.List.{List, [], _∷_}
-use mathlib.Core.Logic.{_⊎_, inl, inr}
+use mathlib.Core.List.{List}
 use mathlib.Core.Option.{Option, none, some}
 use native.Mathlib.Omega.{arith}
 use lib.ListN.{length}
-use borrow.Author.Tests.{ne-eqb}
 use Rattle.rules.specs.Basics.{TunnelSent, if_then_else_}
-use Rattle.rules.specs.State.{Chain, Event, Held, SideState, State, base, blocking, bypassable, internal, side}
+use Rattle.rules.specs.State.{Event, State, side}
 use Rattle.rules.specs.Limits.{durationLimit}
 use Rattle.rules.specs.Aggregates.{addAggregates, aggregatesOf}
-use Rattle.rules.specs.ChoiceHeads.{Head as RulesHead, byMoment, firstBy, headAs, waitingHead}
+use Rattle.rules.specs.ChoiceHeads.{Head as RulesHead, waitingHead}
 use Rattle.rules.specs.ChoiceRound.{liftEvent}
 use Rattle.rules.specs.Queueing.{pushEvent}
 use Rattle.rules.specs.NetworkStep.{packet, stamp, stepPadding, stepTunnel}
@@ -21,26 +19,28 @@ use Rattle.event.specs.HandedIn.{sideOf}
 use Rattle.event.specs.declared.SimEvent.{SimEvent}
 use Rattle.layout.specs.Accepted.{Accepted}
 use Rattle.layout.specs.Layout.{stateOf}
-use Rattle.queue.specs.declared.peek.Head.{Head}
 use Rattle.queue.specs.Changes.{Leaves, countIn}
-use Rattle.queue.specs.Heads.{chainAt, headFrom}
-use Rattle.queue.specs.Pushes.{Canonical, MayPush, eventValue}
+use Rattle.queue.specs.Heads.{headFrom}
+use Rattle.queue.specs.Pushes.{Canonical, MayPush}
+use Rattle.event.specs.Values.{eventValue}
 use Rattle.delay.specs.Tests.{baseOf, delayedOf, sumsIn}
 use Rattle.network.specs.declared.padding.Padding.{Padding}
 use Rattle.network.specs.declared.padding.Padding.the-variants.{Dropped, Own, Replaces}
 use Rattle.network.specs.declared.padding.Replaced.{Replaced}
 use Rattle.network.specs.declared.tunnel.Tunnel.{Tunnel}
+use Rattle.network.specs.Due.{MayAggregate}
 use Rattle.network.specs.Stamps.{evictedCount}
 use Rattle.network.specs.Plans.{dropped, own, paddedOf, paddingOf, paddingPlan, paddingStep, planReplacing, sentOf, takes, takesFrom, tunnelPlan, tunnelStep}
 use Rattle.layout.proofs.Shapes.{accepted-shaped}
 use Rattle.layout.proofs.Theorems.{holds-accepted}
 use Rattle.queue.proofs.Sizes.{free-length, leaves-then}
+use Rattle.network.proofs.AggregateLaws.{adds-free}
 use Rattle.network.proofs.PaddingLaws.{padding-step}
 use Rattle.network.proofs.RoomLaws.{aggregates-long}
 use Rattle.network.proofs.TunnelLaws.{tunnel-step}
-use Rattle.network_stack.specs.Packets.{MayPad, MayReplace, MaySend, MayTakeOver, Packet, passedOn}
-use Rattle.network_stack.specs.Writes.{MayAggregate, MayStamp}
-use Rattle.network_stack.proofs.AggregateLaws.{adds-free}
+use Rattle.network.proofs.WaitLaws.{waits-in}
+use Rattle.network_stack.specs.Packets.{MayPad, MayReplace, MaySend, Packet, passedOn}
+use Rattle.network_stack.specs.Writes.{MayStamp}
 use Rattle.network_stack.proofs.EvictLaws.{stamp-free}
 use Rattle.network_stack.proofs.PacketLaws.{recv-canonical}
 use Rattle.network_stack.proofs.TakeLaws.{passed-free}
@@ -51,9 +51,6 @@ network-small w a = holds-accepted w a .settings .network
 -- ---- replace
 
 module _ (w : List ℕ) (r : Replaced) (d now : ℕ) (may : MayReplace w r d now) where
-  pub replace-take : MayTakeOver w (r .head)
-  replace-take = may .head
-
   module _ (v : List ℕ) (l : Leaves w v (passedOn (stateOf w) (headFrom (r .head)))) where
     free-same : countIn v 0 ≡ countIn w 0
     free-same = sym (free-length v) ∙ ap (λ s. length (s .free)) (l .state) ∙ ap length (passed-free (stateOf w) (headFrom (r .head))) ∙ free-length w
@@ -67,59 +64,7 @@ module _ (w : List ℕ) (r : Replaced) (d now : ℕ) (may : MayReplace w r d now
         leaves-then w v left _ _ l
         (subst (λ s. Leaves v left (addAggregates s (aggregatesOf d (sideOf (r .head .event .client)) now (delayedOf (r .by))))) (l .state) m)
 
--- ---- the packet that waits stands in blocking or bypassable
-
-unfoldable Waits : Option RulesHead → Type 0
-Waits none = Unit {0}
-Waits (some h) = (h .chain ≡ blocking) ⊎ (h .chain ≡ bypassable)
-
-blocking-waits : (l : List (Held Event)) → Waits (headAs blocking 0 l)
-unfolding Waits headAs
-blocking-waits [] = tt
-blocking-waits (x ∷ l) = inl refl
-
-bypassable-waits : (l : List (Held Event)) → Waits (headAs bypassable 0 l)
-unfolding Waits headAs
-bypassable-waits [] = tt
-bypassable-waits (x ∷ l) = inr refl
-
-first-waits : (lt : RulesHead → RulesHead → Bool) (a b : Option RulesHead) → Waits a → Waits b → Waits (firstBy lt a b)
-unfolding Waits firstBy
-first-waits lt none b p q = q
-first-waits lt (some a) none p q = p
-first-waits lt (some a) (some b) p q = go (lt b a)
-  where
-    go : (t : Bool) → Waits (if t then some b else some a)
-    go true = q
-    go false = p
-
-waiting-waits : (t : Bool) (x : SideState) → Waits (waitingHead t x)
-unfolding waitingHead
-waiting-waits true x = blocking-waits (x .queues .blocking)
-waiting-waits false x = first-waits byMoment _ _ (bypassable-waits (x .queues .bypassable)) (blocking-waits (x .queues .blocking))
-
--- the number of a chain, as the client's are
-abbrev numberOf : Chain → ℕ
-numberOf base = 1
-numberOf blocking = 2
-numberOf bypassable = 3
-numberOf internal = 4
-
-past-three : (n : ℕ) → 3 < n → numberOf (chainAt n) ≡ 4
-past-three n l = rw (ne-eqb n 1 (λ e. omega arith), ne-eqb n 2 (λ e. omega arith), ne-eqb n 3 (λ e. omega arith))
-
-chain-number : (n : ℕ) → (numberOf (chainAt n) ≡ 2 → n ≡ 2) × (numberOf (chainAt n) ≡ 3 → n ≡ 3)
-chain-number zero = (λ e. absurd (omega arith), λ e. absurd (omega arith))
-chain-number (suc zero) = (λ e. absurd (omega arith), λ e. absurd (omega arith))
-chain-number (suc (suc zero)) = (λ e. refl, λ e. absurd (omega arith))
-chain-number (suc (suc (suc zero))) = (λ e. absurd (omega arith), λ e. refl)
-chain-number (suc (suc (suc (suc n)))) =
-    let p = past-three (suc (suc (suc (suc n)))) (omega arith) in (λ e. absurd (omega (arith, p)), λ e. absurd (omega (arith, p)))
-
-chain-waits : (h : Head) → Waits (some (headFrom h)) → (h .chain ≡ 2) ⊎ (h .chain ≡ 3)
-unfolding Waits headFrom
-chain-waits h (inl e) = inl (chain-number (h .chain) .0 (ap numberOf e))
-chain-waits h (inr e) = inr (chain-number (h .chain) .1 (ap numberOf e))
+-- ---- the packet that waits
 
 -- a packet that the plan takes over is the first that waits
 plan-takes : (s : State) (now : ℕ) (e : Event) (h : RulesHead) (by : Option ℕ) (f : List ℕ) → paddingPlan s now e ≡ takes h by f
@@ -183,7 +128,7 @@ module _ (w : List ℕ) (p : Padding) (e : SimEvent) (d now : ℕ) (may : MayPad
           head =
               record {
                 shaped = accepted-shaped w (may .accepted);
-                chain = chain-waits (r .head) (subst Waits waits-is (waiting-waits (side (stateOf w) (sideOf (e .client)) .blockBypassable) (side (stateOf w) (sideOf (e .client)))));
+                chain = waits-in (side (stateOf w) (sideOf (e .client)) .blockBypassable) (side (stateOf w) (sideOf (e .client))) (r .head) waits-is;
                 first = subst (HeadOf (stateOf w)) waits-is (waiting-first (stateOf w) (sideOf (e .client)) (side (stateOf w) (sideOf (e .client)) .blockBypassable) (holds-accepted w (may .accepted) .sound));
               };
           free = omega (arith, rw q at (may .free), aggregates-long d (sideOf (r .head .event .client)) now (delayedOf (r .by)));

@@ -1,33 +1,22 @@
 -- Laws of the packets that a step queues. Assumes nothing.
 use Prim.Native.Nat.{ℕ, zero, suc, _≤_}
-use mathlib.Core.Path.{_≡_, refl, sym, ap, _∙_}
+use mathlib.Core.Path.{_≡_, refl, ap, _∙_}
 use mathlib.Core.Bool.{Bool, true, false}
 use native.Mathlib.Omega.{arith}
-use Rattle.rules.specs.Basics.{Side, TunnelSent, TunnelRecv, PaddingRecv, NormalRecv, rank, if_then_else_}
+use Rattle.rules.specs.Basics.{Side, TunnelRecv, PaddingRecv, NormalRecv, rank, if_then_else_}
 use Rattle.rules.specs.State.{Event}
 use Rattle.rules.specs.NetworkStep.{packet}
 use Rattle.event.specs.HandedIn.{sideOf}
 use Rattle.event.specs.declared.SimEvent.{SimEvent}
-use Rattle.layout.specs.Layout.{kindAt}
-use Rattle.queue.specs.Pushes.{Canonical, eventValue}
+use Rattle.event.specs.Values.{kindAt, eventValue}
+use Rattle.queue.specs.Pushes.{Canonical}
 use Rattle.network_stack.specs.Packets.{Packet, receiptKind, receiptNo}
 
 -- a kind to 9 and no machine
 canonical : (r : SimEvent) → r .kind .0 ≤ 9 → r .machine ≡ 0 → Canonical r
 canonical r k m = record { kind = k; machine = omega arith; none = λ q. m }
 
-pub sent-packet : (e : SimEvent) (padding bypass replace : Bool)
-    → Packet (record { kind = record { 0 = 0 }; moment = e .moment; delay = e .delay; client = e .client; padding = padding; bypass = bypass; replace = replace; machine = 0 })
-    (packet TunnelSent (e .moment .0) (e .delay .0) (sideOf (e .client)) padding bypass replace)
-sent-packet e padding bypass replace = record { canonical = canonical _ (omega arith) refl; is = refl }
-
 -- ---- receipt
-
-pub receipt-padding : (b : Bool) → b ≡ true → 5 ≡ receiptNo b
-receipt-padding b e = sym (ap receiptNo e)
-
-pub receipt-normal : (b : Bool) → b ≡ false → 4 ≡ receiptNo b
-receipt-normal b e = sym (ap receiptNo e)
 
 receipt-small : (b : Bool) → receiptNo b ≤ 9
 receipt-small true = omega arith

@@ -17,13 +17,14 @@ use Rattle.event.specs.HandedIn.{sideOf}
 use Rattle.event.specs.declared.SimEvent.{SimEvent}
 use Rattle.queue_event.specs.Chain.{Node}
 use Rattle.queue_event.specs.Tag.{kindField, machineField}
-use Rattle.layout.specs.Layout.{eventFrom, heldEvent, kindAt, stateOf}
+use Rattle.layout.specs.Layout.{eventFrom, heldEvent, stateOf}
+use Rattle.event.specs.Values.{kindAt, eventValue}
 use Rattle.layout.specs.Shape.{EventShape, Shapes}
 use Rattle.layout.specs.Changes.{chainNo, sideNo}
 use Rattle.queue.specs.declared.peek.Head.{Head}
 use Rattle.queue.specs.Changes.{Leaves, MayRelease, Released, chainsIn, countIn, headIn}
-use Rattle.queue.specs.Heads.{chainAt, eventOf, headFrom}
-use Rattle.queue.specs.Pushes.{MayPush, eventValue}
+use Rattle.queue.specs.Heads.{chainAt, headFrom}
+use Rattle.queue.specs.Pushes.{MayPush}
 use Rattle.layout.proofs.TwoChains.{queue-built}
 use Rattle.queue.proofs.Changing.{first-is, firstNode, shaped-records}
 use Rattle.queue.proofs.Queueing.{released-event}
@@ -72,7 +73,7 @@ module _ (w : List ℕ) (h : Head) (k : ℕ) (may : MayTakeOver w h) (ek : (k �
   small : k < 12
   small = omega (arith, ek .1)
 
-  held : head? (queue (side (stateOf w) (sideOf (h .event .client)) .queues) (chainAt (h .chain))) ≡ some (inRecord (h .place) (eventOf (h .event)))
+  held : head? (queue (side (stateOf w) (sideOf (h .event .client)) .queues) (chainAt (h .chain))) ≡ some (inRecord (h .place) (eventValue (h .event)))
   unfolding headFrom
   held = may .first
 
@@ -87,7 +88,7 @@ module _ (w : List ℕ) (h : Head) (k : ℕ) (may : MayTakeOver w h) (ek : (k �
   node : Node
   node = firstNode w (may .shaped) k small counted
 
-  held-node : some (inRecord (node .at) (eventFrom (sideOf (h .event .client)) (node .rec))) ≡ some (inRecord (h .place) (eventOf (h .event)))
+  held-node : some (inRecord (node .at) (eventFrom (sideOf (h .event .client)) (node .rec))) ≡ some (inRecord (h .place) (eventValue (h .event)))
   unfolding node
   held-node =
       ap (λ l. head? (map (heldEvent (sideOf (h .event .client))) l)) (sym (first-is w (may .shaped) k small counted))
@@ -99,9 +100,9 @@ module _ (w : List ℕ) (h : Head) (k : ℕ) (may : MayTakeOver w h) (ek : (k �
   unfolding node placeIn
   place-is = sym (ap placeIn held-node)
 
-  event-is : eventOf (h .event) ≡ eventFrom (sideOf (h .event .client)) (node .rec)
+  event-is : eventValue (h .event) ≡ eventFrom (sideOf (h .event .client)) (node .rec)
   unfolding eventIn
-  event-is = sym (ap (eventIn (eventOf (h .event))) held-node)
+  event-is = sym (ap (eventIn (eventValue (h .event))) held-node)
 
   -- it is a `TunnelSent`, without a machine
   shape : EventShape (k % 5) (node .rec .tag)

@@ -1,3 +1,4 @@
 pub mod Writes
+pub mod Windows
 pub mod Packets
 pub mod Steps

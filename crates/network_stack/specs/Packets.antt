@@ -23,7 +23,8 @@ use Rattle.layout.specs.Shape.{Shaped}
 use Rattle.queue.specs.declared.peek.Head.{Head}
 use Rattle.queue.specs.Changes.{countIn}
 use Rattle.queue.specs.Heads.{headFrom}
-use Rattle.queue.specs.Pushes.{Canonical, eventValue}
+use Rattle.queue.specs.Pushes.{Canonical}
+use Rattle.event.specs.Values.{eventValue}
 use Rattle.delay.specs.Tests.{delayedOf}
 use Rattle.network.specs.declared.padding.Padding.{Padding}
 use Rattle.network.specs.declared.padding.Replaced.{Replaced}

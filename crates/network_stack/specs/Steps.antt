@@ -20,7 +20,8 @@ use Rattle.layout.specs.Accepted.{Accepted}
 use Rattle.layout.specs.Layout.{stateOf}
 use Rattle.layout.specs.Shape.{Shaped}
 use Rattle.layout.specs.Spare.{Spare}
-use Rattle.queue.specs.Pushes.{Canonical, eventValue}
+use Rattle.queue.specs.Pushes.{Canonical}
+use Rattle.event.specs.Values.{eventValue}
 use Rattle.network.specs.declared.padding.Padding.{Padding}
 use Rattle.network.specs.declared.tunnel.Tunnel.{Tunnel}
 use Rattle.network.specs.Plans.{paddedOf, paddingOf, paddingPlan, sentOf, tunnelOf, tunnelPlan}

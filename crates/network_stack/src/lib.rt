@@ -1,14 +1,12 @@
 // What a network step writes, and the step itself on an accepted state: it is planned, refused with number 9 or 10, or carried out.
-ghost use Rattle.rules.specs.Limits.{momentLimit, durationLimit};
 ghost use Rattle.network_stack.specs.Steps.{MayStep, StepDone};
 
-pub mod aggregate;
 pub mod packets;
 pub mod padding;
 pub mod plan;
 pub mod room;
-pub mod stamps;
 pub mod tunnel;
+pub mod window_count;
 
 use event::SimEvent;
 use event::answer::Refusal;

@@ -18,14 +18,15 @@ use Rattle.queue_event.specs.Values.{readEvent}
 use Rattle.queue_event.specs.Tag.{flag as flagOf, flag, kindField, paddingField, bypassField, replaceField, machineField}
 use Rattle.layout.specs.Records.{headOf, countOf, machinesFor, LinkOk, EventOk}
 use Rattle.layout.specs.Accepted.{Good}
-use Rattle.layout.specs.Layout.{chains, kindAt, eventFrom, heldEvent}
+use Rattle.layout.specs.Layout.{chains, eventFrom, heldEvent}
+use Rattle.event.specs.Values.{kindAt, eventValue}
 use Rattle.layout.specs.Changes.{sideNo, chainNo}
 use Rattle.queue_event.proofs.Laws.{nodes-next}
 use Rattle.layout.proofs.Banks.{chains-at}
 use Rattle.layout.proofs.TwoChains.{queue-built}
 use Rattle.layout.proofs.Walk.{ok-chain, chain-link}
 use Rattle.queue.specs.declared.peek.Found.the-variants.{Nothing, At}
-use Rattle.queue.specs.Heads.{eventOf, chainAt, headFrom, foundOf, sideHeld, numberOf, Stands, Peeked}
+use Rattle.queue.specs.Heads.{chainAt, headFrom, foundOf, sideHeld, numberOf, Stands, Peeked}
 
 -- ---- an event as it is read
 
@@ -33,7 +34,7 @@ pub flag-same : (n : ℕ) → flagOf n ≡ flag n
 flag-same zero = refl
 flag-same (suc n) = refl
 
-pub event-same : (b : Bool) (x : Rec) → eventOf (readEvent b x) ≡ eventFrom (sideOf b) x
+pub event-same : (b : Bool) (x : Rec) → eventValue (readEvent b x) ≡ eventFrom (sideOf b) x
 unfolding eventFrom
 event-same b x =
     λ d.
@@ -151,8 +152,8 @@ module _ (h rs : List ℕ) (n : ℕ) (b : Bool) (k : ℕ) (lo : 1 ≤ n) (hi : n
               };
         }
       where
-        told : eventOf e ≡ eventFrom (sideOf b) (recAt rs (headOf h k))
-        told = ap eventOf ee ∙ event-same b (recAt rs p) ∙ ap (λ i. eventFrom (sideOf b) (recAt rs i)) ep
+        told : eventValue e ≡ eventFrom (sideOf b) (recAt rs (headOf h k))
+        told = ap eventValue ee ∙ event-same b (recAt rs p) ∙ ap (λ i. eventFrom (sideOf b) (recAt rs i)) ep
 
         same :
             foundOf (At (record { chain = n; place = p; event = e; moment = t }))

@@ -10,7 +10,7 @@ use lib.Dec.{eqb, ltb}
 use borrow.Author.Tests.{lt-ltb, le-ltb, eq-eqb, ne-eqb}
 use Rattle.rules.specs.Basics.{if_then_else_, before, rank}
 use Rattle.rules.specs.ChoiceHeads.{firstBy, byMoment, byRawMoment, byDelay, Head as RulesHead}
-use Rattle.layout.specs.Layout.{kindAt}
+use Rattle.event.specs.Values.{kindAt}
 use Rattle.layout.proofs.Order.{rank-kind}
 use Rattle.queue.specs.declared.peek.Head.{Head}
 use Rattle.queue.specs.declared.peek.Found.{Found}

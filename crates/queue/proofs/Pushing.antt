@@ -16,13 +16,14 @@ use Rattle.event.specs.declared.SimEvent.{SimEvent}
 use Rattle.event.specs.declared.AggregateDelay.{AggregateDelay}
 use Rattle.queue_event.specs.Tag.{markOf, bit, eventTag, aggregateTag, kindField, bypassField, sideField, machineField}
 use Rattle.layout.specs.Records.{KindOk}
-use Rattle.layout.specs.Layout.{kindAt, eventFrom, aggregateFrom, stateOf}
+use Rattle.event.specs.Values.{kindAt, eventValue}
+use Rattle.layout.specs.Layout.{eventFrom, aggregateFrom, stateOf}
 use Rattle.layout.specs.Shape.{EventShape, RecordShape}
 use Rattle.layout.specs.Changes.{sideNo, chainNo}
 use Rattle.queue_event.proofs.Fields.{bit-flag, event-mark, event-kind, event-padding, event-bypass, event-replace, event-side, event-machine, event-small, aggregate-mark}
 use Rattle.layout.proofs.Order.{rank-kind}
 use Rattle.queue.specs.Changes.{Leaves, MayTake, Queued}
-use Rattle.queue.specs.Pushes.{eventValue, chainPlace, Canonical, MayPush, MayAdd}
+use Rattle.queue.specs.Pushes.{chainPlace, Canonical, MayPush, MayAdd}
 use Rattle.queue.proofs.States.{recOf, changed-leaves}
 use Rattle.queue.proofs.Queueing.{queued-event, queued-aggregate}
 

@@ -124,7 +124,7 @@ released-aggregate w left may c =
 
 -- ---- stamps
 
-stamps-are : (w : List ℕ) (z : Side) → side (stateOf w) z .stamps ≡ map heldStamp (chainsIn w (5 + 5 * sideNo z))
+pub stamps-are : (w : List ℕ) (z : Side) → side (stateOf w) z .stamps ≡ map heldStamp (chainsIn w (5 + 5 * sideNo z))
 unfolding stateFrom
 stamps-are w client = refl
 stamps-are w server = refl

@@ -11,13 +11,14 @@ use Rattle.rules.specs.State.{Chain, State, base, blocking, bypassable, interna
 use Rattle.event.specs.HandedIn.{eventIn}
 use Rattle.event.specs.declared.SimEvent.{SimEvent}
 use Rattle.queue_event.specs.Chain.{Node}
-use Rattle.layout.specs.Layout.{heldAggregate, heldEvent, heldStamp, kindAt, placeOf, stateFrom, stateOf}
+use Rattle.layout.specs.Layout.{heldAggregate, heldEvent, heldStamp, placeOf, stateFrom, stateOf}
+use Rattle.event.specs.Values.{kindAt, eventValue}
 use Rattle.layout.specs.Changes.{chainNo, sideNo}
 use Rattle.layout.proofs.Banks.{chains-at}
 use Rattle.layout.proofs.Counts.{length-map, length-nodes}
 use Rattle.layout.proofs.TwoChains.{queue-built}
 use Rattle.queue.specs.Changes.{Leaves, chainsIn, countIn, headIn}
-use Rattle.queue.specs.Pushes.{Canonical, eventValue}
+use Rattle.queue.specs.Pushes.{Canonical}
 use Rattle.queue.proofs.Pushing.{machine-is}
 
 -- ---- lengths

@@ -62,14 +62,14 @@ stampedWith s z now l f = withFree (withSide s z (withStamps (side s z) (l ++ (i
 
 -- ---- one turn: the first stamp is stale, and goes; it is not, and the stamp is added
 
-pub stale-goes : (s : State) (z : Side) (now : ℕ) → staleFirst (s .settings .window) now (side s z .stamps) ≡ true → stamp (dropStamp s z) z now ≡ stamp s z now
+stale-goes : (s : State) (z : Side) (now : ℕ) → staleFirst (s .settings .window) now (side s z .stamps) ≡ true → stamp (dropStamp s z) z now ≡ stamp s z now
 unfolding stamp dropStamp
 stale-goes s client now e = λ d.
     stampedWith s client now (evict-stale (s .settings .window) now (s .client .stamps) e d) (evicted-stale (s .settings .window) now (s .client .stamps) (s .free) e d)
 stale-goes s server now e = λ d.
     stampedWith s server now (evict-stale (s .settings .window) now (s .server .stamps) e d) (evicted-stale (s .settings .window) now (s .server .stamps) (s .free) e d)
 
-pub fresh-stays : (s : State) (z : Side) (now : ℕ) → staleFirst (s .settings .window) now (side s z .stamps) ≡ false → addStamp s z now ≡ stamp s z now
+fresh-stays : (s : State) (z : Side) (now : ℕ) → staleFirst (s .settings .window) now (side s z .stamps) ≡ false → addStamp s z now ≡ stamp s z now
 unfolding stamp addStamp
 fresh-stays s z now e = λ d.
     stampedWith s z now (evict-fresh (s .settings .window) now (side s z .stamps) e d) (evicted-fresh (s .settings .window) now (side s z .stamps) (s .free) e d)
@@ -128,7 +128,7 @@ module _ (w : List ℕ) (z : Side) (t : ℕ) (s : Shaped w) (free : 0 < countIn 
       go (inl q) = record { shaped = s; free = free; chain = omega arith; used = omega arith; canonical = stamp-shape 5 q (omega arith) refl (omega arith) }
       go (inr q) = record { shaped = s; free = free; chain = omega arith; used = omega arith; canonical = stamp-shape 10 q (omega arith) refl (omega arith) }
 
-  stamp-mark : 5 + 5 * sideNo z ≡ markOf t
+  pub stamp-mark : 5 + 5 * sideNo z ≡ markOf t
   stamp-mark = go stamp-cases
     where
       go : (t ≡ 5) ⊎ (t ≡ 10) → 5 + 5 * sideNo z ≡ markOf t

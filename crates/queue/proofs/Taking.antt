@@ -16,7 +16,7 @@ use Rattle.queue_event.specs.Order.{insertSorted}
 use Rattle.layout.specs.Shape.{Shapes}
 use Rattle.layout.specs.Changes.{putChain}
 use Rattle.layout.proofs.ShapeMoves.{shapes-insert, shapes-append, shapes-tail, shapes-freed}
-use Rattle.queue.specs.Changes.{Changed, MayTake, MayRelease, Queued, AppendedTo, Released, headIn, countIn, chainsIn}
+use Rattle.queue.specs.Changes.{Changed, MayTake, MayAppend, MayRelease, Queued, AppendedTo, Released, headIn, countIn, chainsIn}
 use Rattle.queue.specs.Lent.{OnRecords, MayJoin, MayPop, InsertedIn, AppendedIn, PoppedIn}
 use Rattle.queue.proofs.Changing.{head-word, count-word, shaped-wide, shaped-count, shaped-records, first-in, first-mark, first-is, first-held, restNodes, chain-held, changed}
 
@@ -151,18 +151,37 @@ queue-done w w₁ left m l t k place spare head count next r may ek ep es eh ec 
     e (shapes-insert (markOf t) (fresh (headIn w 0) m l t) (chainsIn w (markOf t)) (may .canonical) (shaped-records w (may .shaped) (markOf t) (may .chain)))
 
 -- at the chain's end
-pub append-done :
-    (w w₁ left : List ℕ) (m t k place spare head count next r : ℕ) → MayTake w 0 t → k ≡ markOf t → place ≡ getD w 24 0 → spare ≡ getD w 25 0
-    → head ≡ getD w (24 + 2 * k) 0 → count ≡ getD w (25 + 2 * k) 0 → next ≡ nextOf (drop 256 w) place → AppendedIn w w₁ head count place m t r
-    → left ≡ putChain (putChain w₁ 0 next (spare - 1)) k r (count + 1) → AppendedTo w left m t
-append-done w w₁ left m t k place spare head count next r may ek ep es eh ec en i e =
-    joined-done w w₁ 0 t r (λ x. x ++ (fresh (headIn w 0) m 0 t ∷ [])) may left k place spare head count next ek ep es eh ec en
-    (record {
-      front = i .front;
-      records = record { len = i .records .len; got = λ x h. subst (λ p. Is (markOf t) (drop 256 w₁) (suc count) r (x ++ (fresh p m 0 t ∷ []))) (ep ∙ head-word w 0 (omega arith)) (i .records .got x h); free = i .records .free; others = i .records .others };
-      size = i .size;
-    })
-    e (shapes-append (markOf t) (fresh (headIn w 0) m 0 t) (chainsIn w (markOf t)) (may .canonical) (shaped-records w (may .shaped) (markOf t) (may .chain)))
+module _ (w : List ℕ) (first count t : ℕ) (a : MayAppend w first count t) where
+  first-is-word : first ≡ getD w (24 + 2 * markOf t) 0
+  first-is-word = a .first ∙ sym (head-word w (markOf t) (a .may .chain))
+
+  count-is-word : count ≡ getD w (25 + 2 * markOf t) 0
+  count-is-word = a .count ∙ sym (count-word w (markOf t) (a .may .chain))
+
+  pub append-wide : 256 ≤ length w
+  append-wide = take-wide w 0 t (a .may)
+
+  pub append-in : In (drop 256 w) (getD w 24 0)
+  append-in = take-in w 0 t (a .may)
+
+  pub append-spare : 1 ≤ getD w 25 0
+  append-spare = take-spare w 0 t (a .may)
+
+  pub append-join : MayJoin w (markOf t) first count (getD w 24 0)
+  append-join = rw (first-is-word, count-is-word) (take-join w 0 t (a .may) (markOf t) refl)
+
+  pub append-done :
+      (w₁ left : List ℕ) (m place spare next r : ℕ) → place ≡ getD w 24 0 → spare ≡ getD w 25 0 → next ≡ nextOf (drop 256 w) place → AppendedIn w w₁ first count place m t r
+      → left ≡ putChain w₁ 0 next (spare - 1) → AppendedTo w (putChain left (markOf t) r (count + 1)) m t
+  append-done w₁ left m place spare next r ep es en i e =
+      joined-done w w₁ 0 t r (λ x. x ++ (fresh (headIn w 0) m 0 t ∷ [])) (a .may) (putChain left (markOf t) r (count + 1)) (markOf t) place spare first count next refl ep es first-is-word count-is-word en
+      (record {
+        front = i .front;
+        records = record { len = i .records .len; got = λ x h. subst (λ p. Is (markOf t) (drop 256 w₁) (suc count) r (x ++ (fresh p m 0 t ∷ []))) (ep ∙ head-word w 0 (omega arith)) (i .records .got x h); free = i .records .free; others = i .records .others };
+        size = i .size;
+      })
+      (ap (λ (x : List ℕ). putChain x (markOf t) r (count + 1)) e)
+      (shapes-append (markOf t) (fresh (headIn w 0) m 0 t) (chainsIn w (markOf t)) (a .may .canonical) (shaped-records w (a .may .shaped) (markOf t) (a .may .chain)))
 
 -- ---- the head of chain k is given back
 

@@ -57,6 +57,12 @@ pub record MayTake (w : List ℕ) (l t : ℕ) : Type 0 where
 abbrev pub Queued : List ℕ → List ℕ → ℕ → ℕ → ℕ → Type 0
 Queued w left m l t = Changed w left (markOf t) (insertSorted (fresh (headIn w 0) m l t) (chainsIn w (markOf t))) (tail (chainsIn w 0))
 
+-- the same of a stamp, where the chain of the tag begins with this record and has so many
+pub record MayAppend (w : List ℕ) (a n t : ℕ) : Type 0 where
+  pub may : MayTake w 0 t
+  pub first : a ≡ headIn w (markOf t)
+  pub count : n ≡ countIn w (markOf t)
+
 -- it stands at the end
 abbrev pub AppendedTo : List ℕ → List ℕ → ℕ → ℕ → Type 0
 AppendedTo w left m t = Changed w left (markOf t) (chainsIn w (markOf t) ++ (fresh (headIn w 0) m 0 t ∷ [])) (tail (chainsIn w 0))

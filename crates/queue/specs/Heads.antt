@@ -7,36 +7,22 @@ use mathlib.Core.Logic.{_⊎_}
 use mathlib.Core.Option.{Option, none, some}
 use lib.Dec.{eqb}
 use Rattle.rules.specs.Basics.{if_then_else_}
-use Rattle.rules.specs.State.{Event, Chain, base, blocking, bypassable, internal, SideState, side}
+use Rattle.rules.specs.State.{Chain, base, blocking, bypassable, internal, SideState, side}
 use Rattle.rules.specs.Limits.{momentLimit}
 use Rattle.rules.specs.ChoiceHeads.{firstBy, Head as RulesHead}
-use Rattle.event.specs.declared.SimEvent.{SimEvent}
 use Rattle.event.specs.HandedIn.{sideOf}
 use Rattle.queue_event.specs.Words.{In}
 use Rattle.queue_event.specs.Chain.{recAt}
 use Rattle.queue_event.specs.Values.{readEvent}
 use Rattle.layout.specs.Records.{headOf, countOf}
-use Rattle.layout.specs.Layout.{kindAt, stateFrom}
+use Rattle.layout.specs.Layout.{stateFrom}
 use Rattle.layout.specs.Changes.{sideNo}
+use Rattle.event.specs.Values.{eventValue}
 use Rattle.queue.specs.declared.peek.Head.{Head}
 use Rattle.queue.specs.declared.peek.Found.{Found}
 use Rattle.queue.specs.declared.peek.Found.the-variants.{Nothing, At}
 
 -- ---- decoding
-
--- `SimEvent`: its kind is that of its number
-abbrev pub eventOf : SimEvent → Event
-eventOf e =
-    record {
-      kind = kindAt (e .kind .0);
-      moment = e .moment .0;
-      delay = e .delay .0;
-      side = sideOf (e .client);
-      padding = e .padding;
-      bypass = e .bypass;
-      replace = e .replace;
-      machine = e .machine;
-    }
 
 -- docs/LAYOUT.md, "Chains": the event chains of a side, as the client's are numbered
 abbrev pub chainAt : ℕ → Chain
@@ -44,7 +30,7 @@ chainAt n = if eqb n 1 then base else if eqb n 2 then blocking else if eqb n 3 t
 
 -- `Head`
 unfoldable pub headFrom : Head → RulesHead
-headFrom x = record { chain = chainAt (x .chain); place = x .place; event = eventOf (x .event); moment = x .moment .0 }
+headFrom x = record { chain = chainAt (x .chain); place = x .place; event = eventValue (x .event); moment = x .moment .0 }
 
 -- `Found`
 unfoldable pub foundOf : Found → Option RulesHead

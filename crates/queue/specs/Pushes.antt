@@ -5,26 +5,10 @@ use mathlib.Core.Bool.{Bool, false}
 use mathlib.Core.List.{List}
 use lib.Dec.{eqb}
 use Rattle.rules.specs.Basics.{if_then_else_}
-use Rattle.rules.specs.State.{Event}
-use Rattle.event.specs.HandedIn.{sideOf, hasMachineNo}
+use Rattle.event.specs.HandedIn.{hasMachineNo}
 use Rattle.event.specs.declared.SimEvent.{SimEvent}
-use Rattle.layout.specs.Layout.{kindAt}
 use Rattle.layout.specs.Shape.{Shaped}
 use Rattle.queue.specs.Changes.{countIn}
-
--- an event that travels between calls, as the rules have it
-abbrev pub eventValue : SimEvent → Event
-eventValue e =
-    record {
-      kind = kindAt (e .kind .0);
-      moment = e .moment .0;
-      delay = e .delay .0;
-      side = sideOf (e .client);
-      padding = e .padding;
-      bypass = e .bypass;
-      replace = e .replace;
-      machine = e .machine;
-    }
 
 -- the chain of a side that an event of this kind and bypass flag goes to: bypassable (3), blocking (2), base (1) or internal (4)
 unfoldable pub chainPlace : ℕ → Bool → ℕ

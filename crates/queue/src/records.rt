@@ -9,9 +9,10 @@ ghost use Rattle.queue_event.specs.Words.{nextOf, In};
 ghost use Rattle.queue_event.specs.Tag.{markOf};
 ghost use Rattle.layout.specs.Layout.{stateOf};
 ghost use Rattle.layout.specs.Changes.{putChain};
-ghost use Rattle.queue.specs.Changes.{Leaves, MayTake, Queued, AppendedTo, MayRelease, Released};
+ghost use Rattle.queue.specs.Changes.{Leaves, MayTake, MayAppend, Queued, AppendedTo, MayRelease, Released};
 ghost use Rattle.queue.specs.Lent.{Wide, MayJoin, MayPop, InsertedIn, AppendedIn, PoppedIn};
-ghost use Rattle.queue.specs.Pushes.{MayPush, MayAdd, eventValue, chainPlace};
+ghost use Rattle.queue.specs.Pushes.{MayPush, MayAdd, chainPlace};
+ghost use Rattle.event.specs.Values.{eventValue};
 use crate::header;
 use event::AggregateDelay;
 use event::Kind;
@@ -25,7 +26,7 @@ use queue_event::tag;
 use queue_event::words;
 
 // The record after r.
-fn next_of(block: &[u64], r: u64) -> u64
+pub fn next_of(block: &[u64], r: u64) -> u64
     requires { ⌜ Wide (now block) ⌝ ∗ ⌜ In (drop 256 (now block)) r ⌝ }
     ensures { λ x. ⌜ x ≡ nextOf (drop 256 (now (block .entry))) r ⌝ }
 {
@@ -62,7 +63,7 @@ fn pop_in(block: &mut [u64], first: u64, free: u64) -> u64
 }
 
 // Chain k begins with this record and has this many.
-fn set_chain(block: &mut [u64], k: usize, first: u64, count: u64)
+pub fn set_chain(block: &mut [u64], k: usize, first: u64, count: u64)
     requires { ⌜ Wide (now block) ⌝ ∗ ⌜ k < 12 ⌝ }
     ensures { λ _. ⌜ now (block .exit) ≡ putChain (now (block .entry)) k first count ⌝ }
 {
@@ -94,19 +95,18 @@ pub fn queue_record(block: &mut [u64], moment: Moment, length: Length, tag: u64)
     took(block, k, new, count, next, spare);
 }
 
-// A free record becomes the last of the chain of the tag.
-pub fn append_record(block: &mut [u64], moment: Moment, tag: u64)
-    requires { ⌜ MayTake (now block) 0 tag ⌝ }
-    ensures { λ _. ⌜ AppendedTo (now (block .entry)) (now (block .exit)) (moment .0) tag ⌝ }
+// A free record becomes the last of the chain of the tag, which begins with `first` and has `count`. Answers the record that it begins with now; the
+// chain's own words in the header are left to the caller.
+pub fn append_record(block: &mut [u64], first: u64, count: u64, moment: Moment, tag: u64) -> u64
+    requires { ⌜ MayAppend (now block) first count tag ⌝ }
+    ensures { λ r. ⌜ AppendedTo (now (block .entry)) (putChain (now (block .exit)) (markOf tag) r (count + 1)) (moment .0) tag ⌝ }
 {
-    let k = tag::mark(tag) as usize;
     let place = block[24];
     let spare = block[25];
-    let first = block[24 + 2 * k];
-    let count = block[25 + 2 * k];
-    let next = next_of(block, place);
+    let free = next_of(block, place);
     let new = append_in(block, first, count, place, moment, tag);
-    took(block, k, new, count, next, spare);
+    set_chain(block, 0, free, spare - 1);
+    new
 }
 
 // The head of chain k is given back.

@@ -36,10 +36,17 @@ pub fn padding(tag: u64) -> bool
     is_set(tag / 256 % 2)
 }
 
+// The field of the bypass flag: 0 or 1.
+pub fn bypass_field(tag: u64) -> u64
+    ensures { λ r. ⌜ r ≡ bypassField tag ⌝ }
+{
+    tag / 512 % 2
+}
+
 pub fn bypass(tag: u64) -> bool
     ensures { λ r. ⌜ r ≡ flag (bypassField tag) ⌝ }
 {
-    is_set(tag / 512 % 2)
+    is_set(bypass_field(tag))
 }
 
 pub fn replace(tag: u64) -> bool
@@ -48,11 +55,18 @@ pub fn replace(tag: u64) -> bool
     is_set(tag / 1024 % 2)
 }
 
+// The field of an aggregate's side: 0 is the client.
+pub fn side_field(tag: u64) -> u64
+    ensures { λ r. ⌜ r ≡ sideField tag ⌝ }
+{
+    tag / 2048 % 2
+}
+
 // Whether the aggregate is the client's.
 pub fn client(tag: u64) -> bool
     ensures { λ r. ⌜ r ≡ isClient (sideField tag) ⌝ }
 {
-    if tag / 2048 % 2 == 0 {
+    if side_field(tag) == 0 {
         return true;
     }
     false

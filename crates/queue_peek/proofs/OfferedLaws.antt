@@ -15,7 +15,8 @@ use Rattle.layout.specs.Layout.{stateFrom}
 use Rattle.queue.specs.declared.peek.Head.{Head}
 use Rattle.queue.specs.declared.peek.Found.{Found}
 use Rattle.queue.specs.declared.peek.Found.the-variants.{Nothing, At}
-use Rattle.queue.specs.Heads.{eventOf, headFrom, foundOf, sideHeld, StandsOn, Peeked, PeekedBoth, Chosen}
+use Rattle.event.specs.Values.{eventValue}
+use Rattle.queue.specs.Heads.{headFrom, foundOf, sideHeld, StandsOn, Peeked, PeekedBoth, Chosen}
 use Rattle.queue.proofs.HeadsOrder.{peeked-first, stands-on, stands-on-at}
 use Rattle.queue_peek.specs.declared.order.Delay.{Delay}
 use Rattle.queue_peek.specs.declared.order.Delay.the-variants.{In}
@@ -73,7 +74,7 @@ module _ (h rs : List ℕ) (t : ℕ) (least : Delay) (f : Found) (p : PeekedBoth
     offered-kind = stands-on-at h rs f x ex (p .stands) .kind
 
     module _ (l : Length) (r : Bool) (el : l .0 ≡ x .moment .0 - t) (er : r ≡ (delayOf (In l) ≤ᵈ delayOf least)) where
-      chosen : (k : Bool) → k ≡ heldBack (sideHeld h rs (x .event .client)) (eventOf (x .event)) → (if r then if k then earliestBlocked (stateFrom h rs) t else foundOf (At x) else none) ≡ peekQueue (stateFrom h rs) t (delayOf least)
+      chosen : (k : Bool) → k ≡ heldBack (sideHeld h rs (x .event .client)) (eventValue (x .event)) → (if r then if k then earliestBlocked (stateFrom h rs) t else foundOf (At x) else none) ≡ peekQueue (stateFrom h rs) t (delayOf least)
       unfolding delayOf foundOf headFrom peekQueue
       chosen k ek =
           (λ d. if (er ∙ ap (λ i. after i ≤ᵈ delayOf least) el) d then if ek d then earliestBlocked (stateFrom h rs) t else foundOf (At x) else none)
@@ -82,9 +83,9 @@ module _ (h rs : List ℕ) (t : ℕ) (least : Delay) (f : Found) (p : PeekedBoth
       -- later than the other four
       pub offered-late : not r ≡ true → PeekedBoth h rs Nothing (peekQueue (stateFrom h rs) t (delayOf least))
       unfolding foundOf StandsOn
-      offered-late e = record { is = sym (ap (λ z. if z then if heldBack (sideHeld h rs (x .event .client)) (eventOf (x .event)) then earliestBlocked (stateFrom h rs) t else foundOf (At x) else none) (not-true r e)) ∙ chosen _ refl; stands = tt }
+      offered-late e = record { is = sym (ap (λ z. if z then if heldBack (sideHeld h rs (x .event .client)) (eventValue (x .event)) then earliestBlocked (stateFrom h rs) t else foundOf (At x) else none) (not-true r e)) ∙ chosen _ refl; stands = tt }
 
-      module _ (e : not r ≡ false) (k : Bool) (ek : (y : List ℕ) → k ≡ heldBack (sideHeld h y (x .event .client)) (eventOf (x .event))) where
+      module _ (e : not r ≡ false) (k : Bool) (ek : (y : List ℕ) → k ≡ heldBack (sideHeld h y (x .event .client)) (eventValue (x .event))) where
         in-time : (if k then earliestBlocked (stateFrom h rs) t else foundOf (At x)) ≡ peekQueue (stateFrom h rs) t (delayOf least)
         in-time = sym (ap (λ z. if z then if k then earliestBlocked (stateFrom h rs) t else foundOf (At x) else none) (not-false r e)) ∙ chosen k (ek rs)
 

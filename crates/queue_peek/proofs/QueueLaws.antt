@@ -14,11 +14,11 @@ use Rattle.rules.specs.State.{blocking, bypassable, internal}
 use Rattle.rules.specs.Limits.{momentLimit}
 use Rattle.rules.specs.ChoiceHeads.{headDelay, heldBack, isBase, waitingFirst, notBefore}
 use Rattle.event.specs.declared.SimEvent.{SimEvent}
-use Rattle.layout.specs.Layout.{kindAt}
+use Rattle.event.specs.Values.{kindAt, eventValue}
 use Rattle.queue.specs.declared.peek.Head.{Head}
 use Rattle.queue.specs.declared.peek.Found.{Found}
 use Rattle.queue.specs.declared.peek.Found.the-variants.{Nothing, At}
-use Rattle.queue.specs.Heads.{eventOf, chainAt, headFrom, foundOf, sideHeld, HeadOk, Stands}
+use Rattle.queue.specs.Heads.{chainAt, headFrom, foundOf, sideHeld, HeadOk, Stands}
 use Rattle.layout.proofs.Order.{rank-kind}
 use Rattle.queue.proofs.HeadsOrder.{stands-at}
 use Rattle.queue_peek.specs.declared.order.Delay.the-variants.{Absent, In}
@@ -42,11 +42,11 @@ tests : Bool → Bool → Bool → Bool → Bool
 tests t s b y = t && s && not (b && y)
 
 module _ (h : List ℕ) (e : SimEvent) where
-  held-is : (rs : List ℕ) → tests (isTunnelSent (kindAt (e .kind .0))) (isSome (sideHeld h rs (e .client) .blockEnd)) (e .bypass) (sideHeld h rs (e .client) .blockBypassable) ≡ heldBack (sideHeld h rs (e .client)) (eventOf e)
+  held-is : (rs : List ℕ) → tests (isTunnelSent (kindAt (e .kind .0))) (isSome (sideHeld h rs (e .client) .blockEnd)) (e .bypass) (sideHeld h rs (e .client) .blockBypassable) ≡ heldBack (sideHeld h rs (e .client)) (eventValue e)
   unfolding tests
   held-is rs = refl
 
-  pub held-other : e .kind .0 ≤ 9 → (e .kind .0 ≡ 0 → ⊥) → (rs : List ℕ) → false ≡ heldBack (sideHeld h rs (e .client)) (eventOf e)
+  pub held-other : e .kind .0 ≤ 9 → (e .kind .0 ≡ 0 → ⊥) → (rs : List ℕ) → false ≡ heldBack (sideHeld h rs (e .client)) (eventValue e)
   unfolding tests
   held-other k d rs = sym (ap (λ x. tests x (isSome (sideHeld h rs (e .client) .blockEnd)) (e .bypass) (sideHeld h rs (e .client) .blockBypassable)) (ap (λ n. eqb n 0) (rank-kind (e .kind .0) (omega arith)) ∙ ne-eqb (e .kind .0) 0 d)) ∙ held-is rs
 
@@ -54,16 +54,16 @@ module _ (h : List ℕ) (e : SimEvent) where
     packet : true ≡ isTunnelSent (kindAt (e .kind .0))
     packet = sym (ap (λ n. isTunnelSent (kindAt n)) z)
 
-    pub held-unblocked : not s ≡ true → (rs : List ℕ) → false ≡ heldBack (sideHeld h rs (e .client)) (eventOf e)
+    pub held-unblocked : not s ≡ true → (rs : List ℕ) → false ≡ heldBack (sideHeld h rs (e .client)) (eventValue e)
     unfolding tests
     held-unblocked p rs = (λ d. tests (packet d) ((sym (not-true s p) ∙ es rs) d) (e .bypass) (sideHeld h rs (e .client) .blockBypassable)) ∙ held-is rs
 
     module _ (p : not s ≡ false) where
-      pub held-plain : not (e .bypass) ≡ true → (rs : List ℕ) → true ≡ heldBack (sideHeld h rs (e .client)) (eventOf e)
+      pub held-plain : not (e .bypass) ≡ true → (rs : List ℕ) → true ≡ heldBack (sideHeld h rs (e .client)) (eventValue e)
       unfolding tests
       held-plain q rs = (λ d. tests (packet d) ((sym (not-false s p) ∙ es rs) d) (sym (not-true (e .bypass) q) d) (sideHeld h rs (e .client) .blockBypassable)) ∙ held-is rs
 
-      pub held-bypass : not (e .bypass) ≡ false → (y : Bool) → ((rs : List ℕ) → y ≡ sideHeld h rs (e .client) .blockBypassable) → (rs : List ℕ) → not y ≡ heldBack (sideHeld h rs (e .client)) (eventOf e)
+      pub held-bypass : not (e .bypass) ≡ false → (y : Bool) → ((rs : List ℕ) → y ≡ sideHeld h rs (e .client) .blockBypassable) → (rs : List ℕ) → not y ≡ heldBack (sideHeld h rs (e .client)) (eventValue e)
       unfolding tests
       held-bypass q y ey rs = (λ d. tests (packet d) ((sym (not-false s p) ∙ es rs) d) (sym (not-false (e .bypass) q) d) (ey rs d)) ∙ held-is rs
 
@@ -108,7 +108,7 @@ module _ (f : Found) (end : ℕ) where
   unfolding foundOf headFrom Stands
   lifted-head w m e em =
       record {
-        is = ap (λ i. some (record { chain = chainAt (w .chain); place = w .place; event = eventOf (w .event); moment = i })) em ∙ ap (λ (x : Found). Option·map (notBefore end) (foundOf x)) (sym e);
+        is = ap (λ i. some (record { chain = chainAt (w .chain); place = w .place; event = eventValue (w .event); moment = i })) em ∙ ap (λ (x : Found). Option·map (notBefore end) (foundOf x)) (sym e);
         stands =
             λ h rs b l s.
             let ok : HeadOk h rs b w = stands-at h rs b f w e s in

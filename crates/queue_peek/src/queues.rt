@@ -7,7 +7,8 @@ ghost use Rattle.rules.specs.Limits.{momentLimit};
 ghost use Rattle.rules.specs.ChoiceHeads.{headDelay, heldBack, waitingFirst, earliestOfSide, earliestBlocked, peekQueue};
 ghost use Rattle.layout.specs.Accepted.{Good};
 ghost use Rattle.layout.specs.Layout.{stateFrom};
-ghost use Rattle.queue.specs.Heads.{eventOf, headFrom, foundOf, sideHeld, Peeked, PeekedBoth, Chosen};
+ghost use Rattle.queue.specs.Heads.{headFrom, foundOf, sideHeld, Peeked, PeekedBoth, Chosen};
+ghost use Rattle.event.specs.Values.{eventValue};
 ghost use Rattle.queue_peek.specs.Decoded.{delayOf};
 ghost use Rattle.queue_peek.specs.Promises.{Lifted};
 use crate::blocks;
@@ -34,7 +35,7 @@ pub fn head_delay(found: Found, time: Moment) -> Delay
 // Whether a packet is held back by its side's block.
 fn held_back(head: &[u64], event: SimEvent) -> bool
     requires { ⌜ length (now head) ≡ 256 ⌝ ∗ ⌜ event .kind .0 ≤ 9 ⌝ }
-    ensures { λ r. ⌜ ((rs : List ℕ) → r ≡ heldBack (sideHeld (now (head .entry)) rs (event .client)) (eventOf event)) ⌝ }
+    ensures { λ r. ⌜ ((rs : List ℕ) → r ≡ heldBack (sideHeld (now (head .entry)) rs (event .client)) (eventValue event)) ⌝ }
 {
     if event.kind.0 != Kind::TUNNEL_SENT {
         return false;

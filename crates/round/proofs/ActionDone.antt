@@ -19,7 +19,8 @@ use Rattle.moment.specs.declared.Length.{Length}
 use Rattle.event.specs.declared.SimEvent.{SimEvent}
 use Rattle.layout.specs.Layout.{stateOf, actionKindAt}
 use Rattle.queue.specs.Changes.{Leaves}
-use Rattle.queue.specs.Pushes.{MayPush, eventValue}
+use Rattle.queue.specs.Pushes.{MayPush}
+use Rattle.event.specs.Values.{eventValue}
 use Rattle.candidate.specs.Candidates.{plannedSlot, actionValue}
 use Rattle.candidate.specs.declared.Planned.{Planned}
 use Rattle.round.specs.Changes.{Becomes, HasFree}

@@ -19,7 +19,8 @@ use Rattle.moment.specs.declared.Moment.{Moment}
 use Rattle.layout.specs.Layout.{stateOf}
 use Rattle.layout.specs.Shape.{Shaped}
 use Rattle.queue.specs.Changes.{Leaves}
-use Rattle.queue.specs.Pushes.{MayPush, eventValue}
+use Rattle.queue.specs.Pushes.{MayPush}
+use Rattle.event.specs.Values.{eventValue}
 use Rattle.candidate.specs.Candidates.{dueSlot, plannedSlot, actionValue}
 use Rattle.candidate.specs.declared.Due.{Due}
 use Rattle.candidate.specs.declared.Planned.{Planned}

@@ -31,16 +31,20 @@ use Rattle.layout.specs.Shape.{Shaped}
 use Rattle.delay.specs.Tests.{delayedOf}
 use Rattle.delay.specs.declared.Delayed.{Delayed}
 use Rattle.queue.specs.Changes.{Leaves}
-use Rattle.queue.specs.Pushes.{MayPush, eventValue}
+use Rattle.queue.specs.Pushes.{MayPush}
+use Rattle.event.specs.Values.{eventValue}
+use Rattle.network.specs.Due.{MayAggregate}
 use Rattle.queue_peek.specs.Decoded.{blockFrom}
 use Rattle.queue_peek.specs.declared.blocks.BlockEnd.{BlockEnd}
 use Rattle.layout.proofs.Theorems.{holds-accepted}
 use Rattle.layout.proofs.Shapes.{accepted-shaped}
+use Rattle.queue.proofs.Sizes.{free-length}
+use Rattle.network.proofs.AggregateLaws.{adds-free}
 use Rattle.round.specs.Changes.{Becomes, unblocked}
-use Rattle.round.specs.Cases.{Shows, MayDelay, BlockDue, Passed, endOf}
+use Rattle.round.specs.Cases.{Shows, BlockDue, Passed, endOf}
 use Rattle.round.specs.declared.round.Pass.the-variants.{On, Answered}
 use Rattle.round.proofs.HeaderWords.{becomes-then}
-use Rattle.round.proofs.FreeRecords.{event-may, event-pushed, free-side, tail-free}
+use Rattle.round.proofs.FreeRecords.{event-may, event-pushed, free-side, leaves-becomes}
 use Rattle.round.proofs.ActionLaws.{side-with}
 use Rattle.event.specs.declared.answer.Choice.the-variants as choice
 
@@ -54,7 +58,7 @@ end-shows c end m d e =
       canonical = record { kind = omega arith; machine = omega arith; none = λ x. refl };
     }
 
--- ---- aggregates added leave both sides, and take a free record each
+-- ---- aggregates added leave both sides
 
 add-one-side : (s : State) (a : Aggregate) (z : Side) → side (addAggregate s a) z ≡ side s z
 unfolding addAggregate
@@ -65,15 +69,6 @@ add-side : (s : State) (l : List Aggregate) (z : Side) → side (addAggregates s
 unfolding addAggregates
 add-side s [] z = refl
 add-side s (a ∷ l) z = add-side (addAggregate s a) l z ∙ add-one-side s a z
-
-add-one-free : (s : State) (a : Aggregate) → length (s .free) ≤ length (addAggregate s a .free) + 1
-unfolding addAggregate
-add-one-free s a = tail-free (s .free)
-
-add-free : (s : State) (l : List Aggregate) → length (s .free) ≤ length (addAggregates s l .free) + length l
-unfolding addAggregates
-add-free s [] = omega arith
-add-free s (a ∷ l) = omega (arith, add-free (addAggregate s a) l, add-one-free s a)
 
 network-same : (s : State) (z : Side) → unblocked s z .settings .networkDelay ≡ s .settings .networkDelay
 network-same s client = refl
@@ -92,7 +87,7 @@ clear-free : (s : State) (now : ℕ) (k : Block) → length (s .free) ≤ length
 unfolding clearBlock
 clear-free s now k =
     let two : length (endAggregates s now k) ≤ 2 = at-most-two _ _ _ _ in
-    omega (arith, add-free (unblocked s (k .side)) (endAggregates s now k), ap length (free-side s (k .side) (withBlock (side s (k .side)) none (side s (k .side) .blockBypassable))))
+    omega (arith, adds-free (unblocked s (k .side)) (endAggregates s now k), ap length (free-side s (k .side) (withBlock (side s (k .side)) none (side s (k .side) .blockBypassable))))
 
 -- ---- the block is cleared
 
@@ -119,16 +114,17 @@ module _ (w : List ℕ) (now : ℕ) (k : BlockEnd) (due : BlockDue w now k) wher
     end-is : end .0 ≡ endMoment now (blockFrom k)
     end-is = ee ∙ later-end now (blockFrom k)
 
-    pub delay-may : MayDelay w₁ (d .0) (sideOf (k .client)) (end .0) by
+    pub delay-may : MayAggregate w₁ (d .0) (sideOf (k .client)) (end .0) (delayedOf by)
     delay-may =
         let two : length (aggregatesOf (d .0) (sideOf (k .client)) (end .0) (delayedOf by)) ≤ 2 = at-most-two _ _ _ _ in
         record {
-          room = record { shaped = c .shaped; free = omega (arith, three-free, ap (λ (s : State). length (s .free)) (c .state), ap length (free-side (stateOf w) (sideOf (k .client)) (withBlock (side (stateOf w) (sideOf (k .client))) none (side (stateOf w) (sideOf (k .client)) .blockBypassable)))) };
+          shaped = c .shaped;
+          free = omega (arith, three-free, free-length w₁, ap (λ (s : State). length (s .free)) (c .state), ap length (free-side (stateOf w) (sideOf (k .client)) (withBlock (side (stateOf w) (sideOf (k .client))) none (side (stateOf w) (sideOf (k .client)) .blockBypassable))));
           delay = omega (arith, delay-is, held .settings .network);
-          moment = omega (arith, ee, end-limit, due .time);
+          time = omega (arith, ee, end-limit, due .time);
         }
 
-    pub block-done : (w₂ : List ℕ) → Becomes w₁ w₂ (addAggregates (stateOf w₁) (aggregatesOf (d .0) (sideOf (k .client)) (end .0) (delayedOf by))) → Becomes w w₂ (clearBlock (stateOf w) now (blockFrom k))
+    pub block-done : (w₂ : List ℕ) → Leaves w₁ w₂ (addAggregates (stateOf w₁) (aggregatesOf (d .0) (sideOf (k .client)) (end .0) (delayedOf by))) → Becomes w w₂ (clearBlock (stateOf w) now (blockFrom k))
     unfolding clearBlock
     block-done w₂ l =
         becomes-then w w₁ w₂ _ _ c
@@ -136,7 +132,7 @@ module _ (w : List ℕ) (now : ℕ) (k : BlockEnd) (due : BlockDue w now k) wher
         (λ i.
         addAggregates (c .state i)
         (aggregatesOf (delay-is i) (sideOf (k .client)) (end-is i)
-        ((eb ∙ ap (λ (t : ℕ). heldUp (side (stateOf w) (sideOf (k .client))) t (waitingHead false (side (stateOf w) (sideOf (k .client))))) end-is) i))) l)
+        ((eb ∙ ap (λ (t : ℕ). heldUp (side (stateOf w) (sideOf (k .client))) t (waitingHead false (side (stateOf w) (sideOf (k .client))))) end-is) i))) (leaves-becomes w₁ w₂ _ l))
 
   -- ---- `BlockingEnd`
 
@@ -151,9 +147,6 @@ module _ (w : List ℕ) (now : ℕ) (k : BlockEnd) (due : BlockDue w now k) wher
     module _ (r : SimEvent) (shows : Shows r (endOf (sideOf (k .client)) (end .0) (d .0))) where
       shown : Shows r (endEvent (stateOf w) now (blockFrom k))
       shown = subst (Shows r) (λ i. endOf (sideOf (k .client)) ((ee ∙ later-end now (blockFrom k)) i) (reporting-is i)) shows
-
-      outcome : RoundOutcome
-      outcome = endBlock (stateOf w) now (blockFrom k)
 
       by-delay : (b : Bool) → eqb (d .0) 0 ≡ b
           → endBlock (stateOf w) now (blockFrom k) ≡ (if b then taken (endEvent (stateOf w) now (blockFrom k)) (clearBlock (stateOf w) now (blockFrom k)) else next (pushEvent (clearBlock (stateOf w) now (blockFrom k)) (endEvent (stateOf w) now (blockFrom k))))

@@ -1,38 +1,22 @@
--- The free records and the aggregates counted, by the words and by the state held; a record queued as a change of the state. Assumes nothing.
-use Prim.Native.Nat.{ℕ, _+_, _≤_, _<_}
+-- What queueing and giving back leave, as a change of the state; the free records of a side given anew. Assumes nothing.
+use Prim.Native.Nat.{ℕ, _≤_}
 use mathlib.Core.Path.{_≡_, refl, ap, subst, _∙_}
-use mathlib.Core.List.{List, [], _∷_, tail}
+use mathlib.Core.List.{List}
 use mathlib.Core.Logic.{inl, inr}
 use native.Mathlib.Omega.{arith}
-use lib.ListN.{length, take, drop}
+use lib.ListN.{length}
 use Rattle.rules.specs.State.{Event, State, withSide, SideState}
 use Rattle.rules.specs.Basics.{Side, client, server}
 use Rattle.rules.specs.Queueing.{pushEvent}
-use Rattle.layout.specs.Layout.{stateFrom, stateOf, placeOf, heldAggregate}
-use Rattle.queue.specs.Changes.{Beside, Leaves, countIn, headIn, chainsIn}
-use Rattle.queue.specs.Pushes.{MayPush, eventValue}
+use Rattle.layout.specs.Layout.{stateOf}
+use Rattle.queue.specs.Changes.{Beside, Leaves}
+use Rattle.queue.specs.Pushes.{MayPush}
+use Rattle.event.specs.Values.{eventValue}
 use Rattle.event.specs.declared.SimEvent.{SimEvent}
-use Rattle.layout.proofs.Banks.{chains-at}
-use Rattle.layout.proofs.Counts.{length-map, length-nodes}
+use Rattle.queue.proofs.Sizes.{free-length}
 use Rattle.round.specs.Changes.{SpareKept, Becomes}
 use Rattle.round.specs.Cases.{Shows}
 use Rattle.round.proofs.HeaderWords.{becomes-then}
-
--- how many records chain k has
-chain-count : (w : List ℕ) (k : ℕ) → k < 12 → length (chainsIn w k) ≡ countIn w k
-chain-count w k l = ap length (chains-at (take 256 w) (drop 256 w) k l) ∙ length-nodes (drop 256 w) (countIn w k) (headIn w k)
-
-pub free-count : (w : List ℕ) → length (stateOf w .free) ≡ countIn w 0
-unfolding stateFrom
-free-count w = length-map placeOf (chainsIn w 0) ∙ chain-count w 0 (omega arith)
-
-pub aggregate-count : (w : List ℕ) → length (stateOf w .aggregates) ≡ countIn w 11
-unfolding stateFrom
-aggregate-count w = length-map heldAggregate (chainsIn w 11) ∙ chain-count w 11 (omega arith)
-
-pub tail-free : {A : Type 0} (l : List A) → length l ≤ length (tail l) + 1
-tail-free [] = omega arith
-tail-free (x ∷ l) = omega arith
 
 -- ---- what queueing and giving back leave
 
@@ -53,7 +37,7 @@ free-side s server x = refl
 
 module _ (w w₁ : List ℕ) (t : State) (e : Event) (r : SimEvent) (c : Becomes w w₁ t) (shows : Shows r e) where
   pub event-may : 1 ≤ length (t .free) → MayPush w₁ r
-  event-may l = record { shaped = c .shaped; free = omega (arith, free-count w₁, ap (λ (s : State). length (s .free)) (c .state)); canonical = shows .canonical }
+  event-may l = record { shaped = c .shaped; free = omega (arith, free-length w₁, ap (λ (s : State). length (s .free)) (c .state)); canonical = shows .canonical }
 
   pub event-pushed : (w₂ : List ℕ) → Leaves w₁ w₂ (pushEvent (stateOf w₁) (eventValue r)) → Becomes w w₂ (pushEvent t e)
   event-pushed w₂ l =

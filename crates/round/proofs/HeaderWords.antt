@@ -7,7 +7,7 @@ use mathlib.Core.Logic.{inl, inr}
 use mathlib.Core.Option.{some}
 use native.Mathlib.Omega.{arith}
 use native.Mathlib.Numerals.{add-one}
-use lib.ListN.{length, getD, set, take, length-set}
+use lib.ListN.{getD, set, take, length-set}
 use lib.Seq.{getD-take, getD-set-other}
 use Rattle.rules.specs.Basics.{Side, client, server}
 use Rattle.rules.specs.State.{State, side, withSide, withSum, withBlock, withEnded, withRounds, total}
@@ -54,9 +54,6 @@ module _ (w : List ℕ) where
 pub side-low : (z : Side) → sideNo z ≤ 1
 side-low client = omega arith
 side-low server = omega arith
-
-pub shaped-long : (w : List ℕ) → Shaped w → 260 ≤ length w
-shaped-long w s = s .size .least
 
 -- ---- one word stored
 

@@ -1,7 +1,6 @@
 -- The laws of this crate, by file. Assumes nothing.
 pub mod HeaderWords
 pub mod FreeRecords
-pub mod DueLaws
 pub mod TakeLaws
 pub mod ActionLaws
 pub mod ActionDone

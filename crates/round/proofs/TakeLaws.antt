@@ -9,7 +9,7 @@ use Rattle.rules.specs.Basics.{Side, client, server}
 use Rattle.rules.specs.State.{Aggregate, Held, State, inRecord, side, withSide, withSum, withAggregates, withFree}
 use Rattle.rules.specs.ChoiceRound.{takeAggregate, shifted}
 use Rattle.event.specs.HandedIn.{sideOf, aggregateIn}
-use Rattle.event.specs.Answers.{eventOut}
+use Rattle.event.specs.Values.{eventValue}
 use Rattle.event.specs.declared.AggregateDelay.{AggregateDelay}
 use Rattle.event.specs.declared.SimEvent.{SimEvent}
 use Rattle.moment.specs.declared.Moment.{Moment}
@@ -21,10 +21,11 @@ use Rattle.queue.specs.Stamps.{firstPlace, dropAggregate}
 use Rattle.queue.specs.declared.peek.Head.{Head}
 use Rattle.queue.proofs.HeadsChains.{chain-number}
 use Rattle.queue.proofs.Queueing.{released-aggregate, released-event}
+use Rattle.queue.proofs.Sizes.{aggregates-length}
 use Rattle.round.specs.Changes.{Becomes, raisedBy}
 use Rattle.round.specs.Cases.{AggregateDue, EventDue, EventTaken, movedTo}
 use Rattle.round.proofs.HeaderWords.{becomes-then}
-use Rattle.round.proofs.FreeRecords.{aggregate-count, beside-spare}
+use Rattle.round.proofs.FreeRecords.{beside-spare}
 
 -- ---- an aggregate
 
@@ -65,7 +66,7 @@ module _ (w : List ℕ) (a : AggregateDelay) (due : AggregateDue w a) where
           shaped = c .shaped;
           chain = omega arith;
           used = omega arith;
-          some = omega (arith, aggregate-count w₁, ap length same-list, some-first (stateOf w .aggregates) (due .first));
+          some = omega (arith, aggregates-length w₁, ap length same-list, some-first (stateOf w .aggregates) (due .first));
         }
 
     pub aggregate-taken : (w₂ : List ℕ) → Released w₁ w₂ 11 → Becomes w w₂ (takeAggregate (stateOf w) (inRecord (headIn w 11) (aggregateIn a)))
@@ -104,5 +105,5 @@ module _ (w : List ℕ) (h : Head) (due : EventDue w h) (k : ℕ) (ek : (k ≡ h
               size = c .size;
               spare = beside-spare w w₁ (c .beside);
             };
-        event = ap eventOut er ∙ ap (λ (t : ℕ). eventOut (movedTo (h .event) (record { 0 = t }))) (em ∙ later-is (shifted (side (stateOf w) (sideOf (h .event .client))) (headFrom h)) (h .moment .0) now (due .lifted));
+        event = ap eventValue er ∙ ap (λ (t : ℕ). eventValue (movedTo (h .event) (record { 0 = t }))) (em ∙ later-is (shifted (side (stateOf w) (sideOf (h .event .client))) (headFrom h)) (h .moment .0) now (due .lifted));
       }

@@ -4,28 +4,26 @@ use mathlib.Core.Path.{_≡_}
 use mathlib.Core.Bool.{Bool, true, false}
 use mathlib.Core.List.{List, head?}
 use mathlib.Core.Option.{Option, none, some}
-use lib.ListN.{length, take, drop}
+use lib.ListN.{take, drop}
 use Rattle.rules.specs.Basics.{Side, PaddingSent, BlockingBegin, BlockingEnd}
 use Rattle.rules.specs.State.{Action, Event, State, BlockOutgoing, inRecord, side, withSide, withEnded}
-use Rattle.rules.specs.Limits.{momentLimit, durationLimit}
-use Rattle.rules.specs.Aggregates.{aggregatesOf}
+use Rattle.rules.specs.Limits.{momentLimit}
 use Rattle.rules.specs.ChoiceRound.{Slot, RoundOutcome, next, taken, nothing, passed, raisedSum, shifted, actionSums, fits, endEvent, takenEvent, takeEvent, actedSide, actedEvent}
 use Rattle.rules.specs.Queueing.{pushEvent}
 use Rattle.rules.specs.Choice.{Answer, event, nothing-left, refused}
 use Rattle.laws.specs.Falls.{stateAfter}
 use Rattle.event.specs.HandedIn.{sideOf, aggregateIn}
-use Rattle.event.specs.Answers.{choiceOf, eventOut}
+use Rattle.event.specs.Answers.{choiceOf}
+use Rattle.event.specs.Values.{eventValue}
 use Rattle.event.specs.declared.SimEvent.{SimEvent}
 use Rattle.event.specs.declared.AggregateDelay.{AggregateDelay}
 use Rattle.moment.specs.declared.Moment.{Moment}
 use Rattle.layout.specs.Accepted.{Accepted}
 use Rattle.layout.specs.Layout.{stateOf}
 use Rattle.layout.specs.Shape.{Shaped}
-use Rattle.delay.specs.Tests.{delayedOf}
-use Rattle.delay.specs.declared.Delayed.{Delayed}
 use Rattle.queue.specs.Changes.{headIn}
 use Rattle.queue.specs.Heads.{headFrom, HeadOk}
-use Rattle.queue.specs.Pushes.{eventValue, Canonical}
+use Rattle.queue.specs.Pushes.{Canonical}
 use Rattle.queue.specs.declared.peek.Head.{Head}
 use Rattle.queue_peek.specs.Decoded.{blockFrom}
 use Rattle.queue_peek.specs.declared.blocks.BlockEnd.{BlockEnd}
@@ -56,21 +54,13 @@ beginOf z a d flag =
 abbrev pub endOf : Side → ℕ → ℕ → Event
 endOf z end d = record { kind = BlockingEnd; moment = end + d; delay = d; side = z; padding = false; bypass = false; replace = false; machine = 0 }
 
--- ---- aggregates
-
--- a record is free for each aggregate of a delay, and their moments are numbers
-pub record MayDelay (w : List ℕ) (d : ℕ) (z : Side) (at : ℕ) (by : Delayed) : Type 0 where
-  pub room : HasFree w (length (aggregatesOf d z at (delayedOf by)))
-  pub delay : d ≤ durationLimit
-  pub moment : at ≤ momentLimit
+-- ---- what is taken
 
 -- the first aggregate, whose side's sum stays within the limit
 pub record AggregateDue (w : List ℕ) (a : AggregateDelay) : Type 0 where
   pub shaped : Shaped w
   pub first : head? (stateOf w .aggregates) ≡ some (inRecord (headIn w 11) (aggregateIn a))
   pub sum : raisedSum (stateOf w) (aggregateIn a) ≤ momentLimit
-
--- ---- events, timers, actions, blocks
 
 -- a head of the queues, not before its own moment with the sum that a base event has added
 pub record EventDue (w : List ℕ) (h : Head) : Type 0 where
@@ -85,7 +75,7 @@ movedTo e m = record { kind = e .kind; moment = m; delay = e .delay; client = e 
 -- the state without it, and the event as it is returned
 pub record EventTaken (w left : List ℕ) (now : ℕ) (h : Head) (r : SimEvent) : Type 0 where
   pub words : Becomes w left (takeEvent (stateOf w) (headFrom h))
-  pub event : eventOut r ≡ takenEvent (stateOf w) now (headFrom h)
+  pub event : eventValue r ≡ takenEvent (stateOf w) now (headFrom h)
 
 -- a timer's slot, and a free record
 pub record TimerDue (w : List ℕ) (d : Due) : Type 0 where

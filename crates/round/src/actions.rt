@@ -19,7 +19,6 @@ use event::Kind;
 use event::ScheduledAction;
 use event::SimEvent;
 use moment::Length;
-use moment::Moment;
 use queue::records;
 use queue_peek::blocks;
 

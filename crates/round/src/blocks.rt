@@ -12,7 +12,6 @@ ghost use Rattle.delay.specs.Tests.{delayedOf};
 ghost use Rattle.queue_peek.specs.Decoded.{blockFrom};
 ghost use Rattle.round.specs.Changes.{Becomes};
 ghost use Rattle.round.specs.Cases.{Shows, BlockDue, Passed, endOf};
-use crate::aggregate;
 use crate::round::Pass;
 use crate::stores;
 use candidate::sums;
@@ -23,6 +22,7 @@ use event::answer::Choice;
 use event::answer::Chosen;
 use moment::Length;
 use moment::Moment;
+use network::aggregate;
 use queue::records;
 use queue_peek::blocks::BlockEnd;
 

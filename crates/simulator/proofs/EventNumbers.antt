@@ -19,7 +19,8 @@ use Rattle.event.specs.HandedIn.{sideOf, eventIn, hasMachineNo}
 use Rattle.event.specs.declared.SimEvent.{SimEvent}
 use Rattle.layout.specs.Header.{reserved}
 use Rattle.layout.specs.Accepted.{Good}
-use Rattle.layout.specs.Layout.{kindAt, stateFrom}
+use Rattle.event.specs.Values.{kindAt}
+use Rattle.layout.specs.Layout.{stateFrom}
 use Rattle.layout.specs.Changes.{sideNo}
 use Rattle.event.proofs.Numbers.{by-kind}
 use Rattle.layout.proofs.Counts.{reserved-is}

@@ -20,9 +20,10 @@ use Rattle.event.specs.HandedIn.{eventIn, hasMachineNo, sideOf}
 use Rattle.event.specs.declared.SimEvent.{SimEvent}
 use Rattle.layout.specs.Header.{reserved}
 use Rattle.layout.specs.Spare.{Spare}
-use Rattle.layout.specs.Layout.{kindAt, stateOf}
+use Rattle.event.specs.Values.{kindAt, eventValue}
+use Rattle.layout.specs.Layout.{stateOf}
 use Rattle.queue.specs.Changes.{Leaves, countIn}
-use Rattle.queue.specs.Pushes.{Canonical, MayPush, eventValue}
+use Rattle.queue.specs.Pushes.{Canonical, MayPush}
 use Rattle.simulator.specs.Kept.{keptEvent}
 use Rattle.simulator.specs.Does.{Does}
 use Rattle.simulator.specs.Outcome.{Outcome}

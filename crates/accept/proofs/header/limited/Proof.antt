@@ -3,17 +3,17 @@ use Prim.Native.Nat.{ℕ, _-_, _≤_, _<_}
 use native.Mathlib.Omega.{arith}
 use lib.ListN.{getD}
 use borrow.Author.Count.{below-none, below-more}
-use borrow.Author.Needs.{needs}
-use Rattle.layout.specs.Header.{limits}
+use Rattle.layout.specs.Header.{limits as limitsOf}
 use Rattle.layout.proofs.Deciding.{holds, fails}
+use borrow.Author.Needs.{needs}
 use Rattle.accept.proofs.header.limited.Statement.{statement}
 use Rattle.accept.proofs.header.limited.Tie as tie
 
 abbrev Inv-loop : tie.InvT-loop
-Inv-loop header i₀ i = (i ≤ 18) × ((k : ℕ) → k < i → getD header k 0 ≤ getD limits k 0)
+Inv-loop header limits i₀ i = (i ≤ 18) × ((k : ℕ) → k < i → getD header k 0 ≤ getD limitsOf k 0)
 
 abbrev μ-loop : tie.MeasureT-loop
-μ-loop header i₀ i = 18 - i
+μ-loop header limits i₀ i = 18 - i
 
 loop-holds : tie.Need-loop-holds Inv-loop μ-loop
 loop-holds c = (omega arith, below-none _)

@@ -1,8 +1,8 @@
 -- `accept::records::chain_ok` meets its contract. Assumes nothing.
 use native.Mathlib.Omega.{arith}
-use borrow.Author.Needs.{needs}
 use Rattle.layout.specs.Records.{Chain}
 use Rattle.layout.proofs.Walk.{Rest, rest-all, walk-ended, walk-outside, walk-unfit, walk-disorder, walk-turn, walk-ends}
+use borrow.Author.Needs.{needs}
 use Rattle.accept.proofs.records.chain_ok.Statement.{statement}
 use Rattle.accept.proofs.records.chain_ok.Tie as tie
 
@@ -36,6 +36,9 @@ record-ok-requires c κs = search needs
 returns-3 : tie.Need-returns-3 Inv-loop μ-loop
 returns-3 c = search walk-unfit
 
+kind-requires : tie.Need-kind-requires Inv-loop μ-loop
+kind-requires c κs = search needs
+
 follows-requires : tie.Need-follows-requires Inv-loop μ-loop
 follows-requires c κs = search needs
 
@@ -52,7 +55,7 @@ loop-less : tie.Need-loop-less Inv-loop μ-loop
 loop-less c = omega arith
 
 loop-again : tie.Need-loop-again Inv-loop μ-loop
-loop-again c = walk-turn _ _ _ _ _ _ _ (c .before .before .before .before .before .before .before .before .before .before .before .loop .inv) (omega arith) _ _ _ _ _ (c .before .before .before .before .before .before .before .get .ensures) (c .before .before .before .before .before .get3 .ensures) (c .before .before .before .before .before .before .get2 .ensures) (c .before .before .before .before .record-ok .ensures) (c .before .before .before .if3 .left) (c .before .before .follows .ensures) (c .before .if4 .left) (omega arith) (omega arith) _ (c .get4 .ensures)
+loop-again c = walk-turn _ _ _ _ _ _ _ (c .before .before .before .before .before .before .before .before .before .before .before .before .loop .inv) (omega arith) _ _ _ _ _ (c .before .before .before .before .before .before .before .before .get .ensures) (c .before .before .before .before .before .before .get3 .ensures) (c .before .before .before .before .before .before .before .get2 .ensures) (c .before .before .before .before .before .record-ok .ensures) (c .before .before .before .before .if3 .left) _ (c .before .before .before .kind .ensures) (c .before .before .follows .ensures) (c .before .if4 .left) (omega arith) (omega arith) _ (c .get4 .ensures)
 
 returns-5 : tie.Need-returns-5 Inv-loop μ-loop
 returns-5 c = walk-ends _ _ _ _ _ _ _ (c .before .loop .inv) (omega arith)
@@ -71,6 +74,7 @@ chain-ok-spec =
     get-requires-3
     record-ok-requires
     returns-3
+    kind-requires
     follows-requires
     returns-4
     get-requires-4

@@ -1,7 +1,8 @@
 -- `accept::records::event_ok` meets its contract. Assumes nothing.
 use native.Mathlib.Omega.{arith}
-use borrow.Author.Needs.{needs}
 use Rattle.layout.proofs.Deciding.{fails, holds, refused, passed}
+use Rattle.accept.proofs.Fields.{kind-of-fields, machine-of-fields}
+use borrow.Author.Needs.{needs}
 use Rattle.accept.proofs.records.event_ok.Statement.{statement}
 use Rattle.accept.proofs.records.event_ok.Tie as tie
 
@@ -14,23 +15,35 @@ returns-2 c = fails (λ p. omega (arith, p .spans))
 returns-3 : tie.Need-returns-3
 returns-3 c = fails (λ p. omega (arith, p .rest))
 
+side-field-requires : tie.Need-side-field-requires
+side-field-requires c κs = search needs
+
 returns-4 : tie.Need-returns-4
 returns-4 c = fails (λ p. omega (arith, p .side))
+
+kind-requires : tie.Need-kind-requires
+kind-requires c κs = search needs
+
+bypass-field-requires : tie.Need-bypass-field-requires
+bypass-field-requires c κs = search needs
 
 kind-ok-requires : tie.Need-kind-ok-requires
 kind-ok-requires c κs = search needs
 
 returns-5 : tie.Need-returns-5
-returns-5 c = fails (λ p. refused (c .before .kind-ok .ensures) (c .if5 .taken) (p .kind))
+returns-5 c = fails (λ p. refused (kind-of-fields (c .before .before .before .kind .ensures) (c .before .before .bypass-field .ensures) (c .before .kind-ok .ensures)) (c .if5 .taken) (p .kind))
+
+machine-requires : tie.Need-machine-requires
+machine-requires c κs = search needs
 
 machine-ok-requires : tie.Need-machine-ok-requires
 machine-ok-requires c κs = search needs
 
 returns-6 : tie.Need-returns-6
-returns-6 c = fails (λ p. refused (c .before .machine-ok .ensures) (c .if6 .taken) (p .machine))
+returns-6 c = fails (λ p. refused (machine-of-fields (c .before .before .before .before .before .before .kind .ensures) (c .before .before .machine .ensures) (c .before .machine-ok .ensures)) (c .if6 .taken) (p .machine))
 
 returns-7 : tie.Need-returns-7
-returns-7 c = holds (record { moments = omega arith; spans = omega arith; rest = omega arith; side = omega arith; kind = passed (c .before .before .before .kind-ok .ensures) (c .before .before .if5 .left); machine = passed (c .before .machine-ok .ensures) (c .if6 .left) })
+returns-7 c = holds (record { moments = omega arith; spans = omega arith; rest = omega arith; side = omega arith; kind = passed (kind-of-fields (c .before .before .before .before .before .before .kind .ensures) (c .before .before .before .before .before .bypass-field .ensures) (c .before .before .before .before .kind-ok .ensures)) (c .before .before .before .if5 .left); machine = passed (machine-of-fields (c .before .before .before .before .before .before .kind .ensures) (c .before .before .machine .ensures) (c .before .machine-ok .ensures)) (c .if6 .left) })
 
 pub event-ok-spec : {M : Type 1} → statement M
 event-ok-spec =
@@ -39,9 +52,13 @@ event-ok-spec =
     returns
     returns-2
     returns-3
+    side-field-requires
     returns-4
+    kind-requires
+    bypass-field-requires
     kind-ok-requires
     returns-5
+    machine-requires
     machine-ok-requires
     returns-6
     returns-7)

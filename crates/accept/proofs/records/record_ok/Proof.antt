@@ -1,9 +1,12 @@
 -- `accept::records::record_ok` meets its contract. Assumes nothing.
 use native.Mathlib.Omega.{arith}
-use borrow.Author.Needs.{needs}
 use Rattle.layout.proofs.Deciding.{fails, hands}
+use borrow.Author.Needs.{needs}
 use Rattle.accept.proofs.records.record_ok.Statement.{statement}
 use Rattle.accept.proofs.records.record_ok.Tie as tie
+
+mark-requires : tie.Need-mark-requires
+mark-requires c κs = search needs
 
 returns : tie.Need-returns
 returns c = fails (λ p. omega (arith, p .chain))
@@ -33,6 +36,7 @@ pub record-ok-spec : {M : Type 1} → statement M
 record-ok-spec =
     tie.close
     (tie.spec
+    mark-requires
     returns
     returns-2
     aggregate-ok-requires

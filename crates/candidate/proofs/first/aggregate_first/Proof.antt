@@ -1,40 +1,30 @@
+-- `candidate::first::aggregate_first` meets its contract. Assumes nothing.
 use borrow.Author.Needs.{needs}
 use Rattle.candidate.proofs.OrderLaws.{aggregate-not-1, aggregate-not-2, aggregate-not-3, aggregate-goes}
 use Rattle.candidate.proofs.first.aggregate_first.Statement.{statement}
 use Rattle.candidate.proofs.first.aggregate_first.Tie as tie
-use Rattle.candidate.proofs.first.aggregate_first.Reads as reads
-use Rattle.candidate.proofs.first.aggregate_first.Lts as lts
-use Rattle.queue_peek.proofs.not_later.Reads as not-later-reads
 
--- src/first.rt:34:9
 not-later-requires : tie.Need-not-later-requires
 not-later-requires c κs = search needs
 
--- src/first.rt:35:9
 returns : tie.Need-returns
 returns c = search aggregate-not-1
 
--- src/first.rt:37:9
 not-later-requires-2 : tie.Need-not-later-requires-2
 not-later-requires-2 c κs = search needs
 
--- src/first.rt:38:9
 returns-2 : tie.Need-returns-2
 returns-2 c = search aggregate-not-2
 
--- src/first.rt:40:9
 not-later-requires-3 : tie.Need-not-later-requires-3
 not-later-requires-3 c κs = search needs
 
--- src/first.rt:41:9
 returns-3 : tie.Need-returns-3
 returns-3 c = search aggregate-not-3
 
--- src/first.rt:43:5
 not-later-requires-4 : tie.Need-not-later-requires-4
 not-later-requires-4 c κs = search needs
 
--- src/first.rt:26:1
 returns-4 : tie.Need-returns-4
 returns-4 c = search aggregate-goes
 

@@ -1,32 +1,24 @@
+-- `candidate::first::block_first` meets its contract. Assumes nothing.
 use borrow.Author.Needs.{needs}
 use Rattle.candidate.proofs.OrderLaws.{block-not-1, block-not-2, block-goes}
 use Rattle.candidate.proofs.first.block_first.Statement.{statement}
 use Rattle.candidate.proofs.first.block_first.Tie as tie
-use Rattle.candidate.proofs.first.block_first.Reads as reads
-use Rattle.candidate.proofs.first.block_first.Lts as lts
-use Rattle.queue_peek.proofs.not_later.Reads as not-later-reads
 
--- src/first.rt:54:9
 not-later-requires : tie.Need-not-later-requires
 not-later-requires c κs = search needs
 
--- src/first.rt:55:9
 returns : tie.Need-returns
 returns c = search block-not-1
 
--- src/first.rt:57:9
 not-later-requires-2 : tie.Need-not-later-requires-2
 not-later-requires-2 c κs = search needs
 
--- src/first.rt:58:9
 returns-2 : tie.Need-returns-2
 returns-2 c = search block-not-2
 
--- src/first.rt:60:5
 not-later-requires-3 : tie.Need-not-later-requires-3
 not-later-requires-3 c κs = search needs
 
--- src/first.rt:47:1
 returns-3 : tie.Need-returns-3
 returns-3 c = search block-goes
 

@@ -1,24 +1,18 @@
+-- `candidate::first::event_first` meets its contract. Assumes nothing.
 use borrow.Author.Needs.{needs}
 use Rattle.candidate.proofs.OrderLaws.{event-not-1, event-goes}
 use Rattle.candidate.proofs.first.event_first.Statement.{statement}
 use Rattle.candidate.proofs.first.event_first.Tie as tie
-use Rattle.candidate.proofs.first.event_first.Reads as reads
-use Rattle.candidate.proofs.first.event_first.Lts as lts
-use Rattle.queue_peek.proofs.not_later.Reads as not-later-reads
 
--- src/first.rt:70:9
 not-later-requires : tie.Need-not-later-requires
 not-later-requires c κs = search needs
 
--- src/first.rt:71:9
 returns : tie.Need-returns
 returns c = search event-not-1
 
--- src/first.rt:73:5
 not-later-requires-2 : tie.Need-not-later-requires-2
 not-later-requires-2 c κs = search needs
 
--- src/first.rt:64:1
 returns-2 : tie.Need-returns-2
 returns-2 c = search event-goes
 

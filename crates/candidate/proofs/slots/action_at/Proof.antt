@@ -1,3 +1,4 @@
+-- `candidate::slots::action_at` meets its contract. Assumes nothing.
 use Prim.Native.Nat.{_≤_, _-_}
 use native.Mathlib.Omega.{arith}
 use borrow.Author.Needs.{needs}
@@ -5,9 +6,6 @@ use Rattle.candidate.specs.Promises.{momentIn, Missed}
 use Rattle.candidate.proofs.SlotLaws.{missed-start, action-next, action-found, action-nowhere}
 use Rattle.candidate.proofs.slots.action_at.Statement.{statement}
 use Rattle.candidate.proofs.slots.action_at.Tie as tie
-use Rattle.candidate.proofs.slots.action_at.Reads as reads
-use Rattle.candidate.proofs.slots.action_at.Lts as lts
-use Rattle.candidate.proofs.slots.action_has.Reads as action-has-reads
 
 abbrev Inv-loop : tie.InvT-loop
 Inv-loop head client moment m₀ m = (m ≤ 16) × Missed (momentIn head client) (moment .0) m
@@ -15,31 +13,24 @@ Inv-loop head client moment m₀ m = (m ≤ 16) × Missed (momentIn head client)
 abbrev μ-loop : tie.MeasureT-loop
 μ-loop head client moment m₀ m = 16 - m
 
--- src/slots.rt:92:5
 loop-holds : tie.Need-loop-holds Inv-loop μ-loop
 loop-holds c = (omega arith, search missed-start)
 
--- src/slots.rt:93:12
 action-has-requires : tie.Need-action-has-requires Inv-loop μ-loop
 action-has-requires c κs = search needs
 
--- src/slots.rt:94:13
 returns : tie.Need-returns Inv-loop μ-loop
 returns c = search action-found
 
--- src/slots.rt:96:13
 add-m : tie.Need-add-m Inv-loop μ-loop
 add-m c = omega arith
 
--- src/slots.rt:92:5
 loop-less : tie.Need-loop-less Inv-loop μ-loop
 loop-less c = omega arith
 
--- src/slots.rt:92:5
 loop-again : tie.Need-loop-again Inv-loop μ-loop
 loop-again c = (omega arith, search action-next)
 
--- src/slots.rt:87:1
 returns-2 : tie.Need-returns-2 Inv-loop μ-loop
 returns-2 c = search action-nowhere
 

@@ -1,19 +1,15 @@
+-- `candidate::slots::bit` meets its contract. Assumes nothing.
 use borrow.Author.Needs.{needs}
 use Rattle.candidate.proofs.PlannedLaws.{flag-zero, flag-more}
 use Rattle.candidate.proofs.slots.bit.Statement.{statement}
 use Rattle.candidate.proofs.slots.bit.Tie as tie
-use Rattle.candidate.proofs.slots.bit.Reads as reads
-use Rattle.candidate.proofs.slots.bit.Lts as lts
 
--- src/slots.rt:132:8
 div-if1 : tie.Need-div-if1
 div-if1 c = search needs
 
--- src/slots.rt:133:9
 returns : tie.Need-returns
 returns c = search flag-zero
 
--- src/slots.rt:128:1
 returns-2 : tie.Need-returns-2
 returns-2 c = search flag-more
 

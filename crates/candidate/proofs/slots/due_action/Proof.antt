@@ -1,24 +1,18 @@
+-- `candidate::slots::due_action` meets its contract. Assumes nothing.
 use borrow.Author.Needs.{needs}
 use Rattle.candidate.proofs.SlotLaws.{action-client, action-server}
 use Rattle.candidate.proofs.slots.due_action.Statement.{statement}
 use Rattle.candidate.proofs.slots.due_action.Tie as tie
-use Rattle.candidate.proofs.slots.due_action.Reads as reads
-use Rattle.candidate.proofs.slots.due_action.Lts as lts
-use Rattle.candidate.proofs.slots.action_at.Reads as action-at-reads
 
--- src/slots.rt:119:9
 action-at-requires : tie.Need-action-at-requires
 action-at-requires c κs = search needs
 
--- src/slots.rt:121:9
 returns : tie.Need-returns
 returns c = search action-client
 
--- src/slots.rt:123:9
 action-at-requires-2 : tie.Need-action-at-requires-2
 action-at-requires-2 c κs = search needs
 
--- src/slots.rt:115:1
 returns-2 : tie.Need-returns-2
 returns-2 c = search action-server
 

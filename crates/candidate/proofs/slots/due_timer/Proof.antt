@@ -1,24 +1,18 @@
+-- `candidate::slots::due_timer` meets its contract. Assumes nothing.
 use borrow.Author.Needs.{needs}
 use Rattle.candidate.proofs.SlotLaws.{timer-client, timer-server}
 use Rattle.candidate.proofs.slots.due_timer.Statement.{statement}
 use Rattle.candidate.proofs.slots.due_timer.Tie as tie
-use Rattle.candidate.proofs.slots.due_timer.Reads as reads
-use Rattle.candidate.proofs.slots.due_timer.Lts as lts
-use Rattle.candidate.proofs.slots.timer_at.Reads as timer-at-reads
 
--- src/slots.rt:106:9
 timer-at-requires : tie.Need-timer-at-requires
 timer-at-requires c κs = search needs
 
--- src/slots.rt:108:9
 returns : tie.Need-returns
 returns c = search timer-client
 
--- src/slots.rt:110:9
 timer-at-requires-2 : tie.Need-timer-at-requires-2
 timer-at-requires-2 c κs = search needs
 
--- src/slots.rt:102:1
 returns-2 : tie.Need-returns-2
 returns-2 c = search timer-server
 

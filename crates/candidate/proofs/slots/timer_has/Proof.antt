@@ -1,32 +1,24 @@
+-- `candidate::slots::timer_has` meets its contract. Assumes nothing.
 use borrow.Author.Needs.{needs}
 use Rattle.candidate.proofs.SlotLaws.{timer-has-none, timer-has-some}
 use Rattle.candidate.proofs.slots.timer_has.Statement.{statement}
 use Rattle.candidate.proofs.slots.timer_has.Tie as tie
-use Rattle.candidate.proofs.slots.timer_has.Reads as reads
-use Rattle.candidate.proofs.slots.timer_has.Lts as lts
-use Rattle.candidate.proofs.slots.timer_slot.Reads as timer-slot-reads
 
--- src/slots.rt:51:9
 timer-slot-requires : tie.Need-timer-slot-requires
 timer-slot-requires c κs = search needs
 
--- src/slots.rt:52:16
 mul-word : tie.Need-mul-word
 mul-word c = search needs
 
--- src/slots.rt:52:16
 shared-slice-read-word : tie.Need-shared-slice-read-word
 shared-slice-read-word c = search needs
 
--- src/slots.rt:54:9
 returns : tie.Need-returns
 returns c = search timer-has-none
 
--- src/slots.rt:56:5
 sub-result : tie.Need-sub-result
 sub-result c = search needs
 
--- src/slots.rt:47:1
 returns-2 : tie.Need-returns-2
 returns-2 c = search timer-has-some
 

@@ -1,41 +1,30 @@
+-- `delay::waiting::beside` meets its contract. Assumes nothing.
 use borrow.Author.Needs.{needs}
 use Rattle.delay.proofs.Packets.{behind-first, behind-second, before-first, before-second}
 use Rattle.delay.proofs.waiting.beside.Statement.{statement}
 use Rattle.delay.proofs.waiting.beside.Tie as tie
-use Rattle.delay.proofs.waiting.beside.Reads as reads
-use Rattle.delay.proofs.waiting.beside.Lts as lts
-use Rattle.delay.proofs.waiting.any_behind.Reads as any-behind-reads
-use Rattle.delay.proofs.waiting.any_in.Reads as any-in-reads
 
--- src/waiting.rt:61:12
 any-behind-requires : tie.Need-any-behind-requires
 any-behind-requires c κs = search needs
 
--- src/waiting.rt:62:13
 returns : tie.Need-returns
 returns c = search behind-first
 
--- src/waiting.rt:64:9
 any-in-requires : tie.Need-any-in-requires
 any-in-requires c κs = search needs
 
--- src/waiting.rt:64:9
 returns-2 : tie.Need-returns-2
 returns-2 c = search behind-second
 
--- src/waiting.rt:66:8
 any-in-requires-2 : tie.Need-any-in-requires-2
 any-in-requires-2 c κs = search needs
 
--- src/waiting.rt:67:9
 returns-3 : tie.Need-returns-3
 returns-3 c = search before-first
 
--- src/waiting.rt:69:5
 any-behind-requires-2 : tie.Need-any-behind-requires-2
 any-behind-requires-2 c κs = search needs
 
--- src/waiting.rt:56:1
 returns-4 : tie.Need-returns-4
 returns-4 c = search before-second
 

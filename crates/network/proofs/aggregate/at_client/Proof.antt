@@ -1,29 +1,21 @@
+-- `network::aggregate::at_client` meets its contract. Assumes nothing.
 use borrow.Author.Needs.{needs}
 use Rattle.network.proofs.DueLaws.{client-end}
 use Rattle.network.proofs.aggregate.at_client.Statement.{statement}
 use Rattle.network.proofs.aggregate.at_client.Tie as tie
-use Rattle.network.proofs.aggregate.at_client.Reads as reads
-use Rattle.network.proofs.aggregate.at_client.Lts as lts
-use Rattle.moment.proofs.Length.times.Reads as times-reads
-use Rattle.network.proofs.aggregate.moment_of.Reads as moment-of-reads
 
--- src/aggregate.rt:37:31
 times-requires : tie.Need-times-requires
 times-requires c κs = search needs
 
--- src/aggregate.rt:37:9
 moment-of-requires : tie.Need-moment-of-requires
 moment-of-requires c κs = search needs
 
--- src/aggregate.rt:38:32
 times-requires-2 : tie.Need-times-requires-2
 times-requires-2 c κs = search needs
 
--- src/aggregate.rt:38:9
 moment-of-requires-2 : tie.Need-moment-of-requires-2
 moment-of-requires-2 c κs = search needs
 
--- src/aggregate.rt:33:1
 returns : tie.Need-returns
 returns c = search client-end
 

@@ -1,25 +1,18 @@
+-- `network::aggregate::at_server` meets its contract. Assumes nothing.
 use borrow.Author.Needs.{needs}
 use Rattle.network.proofs.DueLaws.{server-end}
 use Rattle.network.proofs.aggregate.at_server.Statement.{statement}
 use Rattle.network.proofs.aggregate.at_server.Tie as tie
-use Rattle.network.proofs.aggregate.at_server.Reads as reads
-use Rattle.network.proofs.aggregate.at_server.Lts as lts
-use Rattle.moment.proofs.Length.times.Reads as times-reads
-use Rattle.network.proofs.aggregate.moment_of.Reads as moment-of-reads
 
--- src/aggregate.rt:50:9
 moment-of-requires : tie.Need-moment-of-requires
 moment-of-requires c κs = search needs
 
--- src/aggregate.rt:51:32
 times-requires : tie.Need-times-requires
 times-requires c κs = search needs
 
--- src/aggregate.rt:51:9
 moment-of-requires-2 : tie.Need-moment-of-requires-2
 moment-of-requires-2 c κs = search needs
 
--- src/aggregate.rt:46:1
 returns : tie.Need-returns
 returns c = search server-end
 

@@ -1,25 +1,18 @@
+-- `network::aggregate::both` meets its contract. Assumes nothing.
 use borrow.Author.Needs.{needs}
 use Rattle.network.proofs.DueLaws.{both-client, both-server}
 use Rattle.network.proofs.aggregate.both.Statement.{statement}
 use Rattle.network.proofs.aggregate.both.Tie as tie
-use Rattle.network.proofs.aggregate.both.Reads as reads
-use Rattle.network.proofs.aggregate.both.Lts as lts
-use Rattle.network.proofs.aggregate.at_client.Reads as at-client-reads
-use Rattle.network.proofs.aggregate.at_server.Reads as at-server-reads
 
--- src/aggregate.rt:64:9
 at-client-requires : tie.Need-at-client-requires
 at-client-requires c κs = search needs
 
--- src/aggregate.rt:64:9
 returns : tie.Need-returns
 returns c = search both-client
 
--- src/aggregate.rt:66:5
 at-server-requires : tie.Need-at-server-requires
 at-server-requires c κs = search needs
 
--- src/aggregate.rt:59:1
 returns-2 : tie.Need-returns-2
 returns-2 c = search both-server
 

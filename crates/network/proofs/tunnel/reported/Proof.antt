@@ -1,46 +1,33 @@
+-- `network::tunnel::reported` meets its contract. Assumes nothing.
 use borrow.Author.Needs.{needs}
 use Rattle.network.proofs.TunnelLaws.{reported-padding, reported-plain, back-at}
 use Rattle.network.proofs.tunnel.reported.Statement.{statement}
 use Rattle.network.proofs.tunnel.reported.Tie as tie
-use Rattle.network.proofs.tunnel.reported.Reads as reads
-use Rattle.network.proofs.tunnel.reported.Lts as lts
-use Rattle.moment.proofs.Moment.later.Reads as later-reads
-use Rattle.moment.proofs.Moment.less.Reads as less-reads
-use Rattle.moment.proofs.Moment.plus.Reads as plus-reads
 
--- src/tunnel.rt:90:16
 plus-requires : tie.Need-plus-requires
 plus-requires c κs = search needs
 
--- src/tunnel.rt:90:16
 plus-requires-2 : tie.Need-plus-requires-2
 plus-requires-2 c κs = search needs
 
--- src/tunnel.rt:90:9
 plus-requires-3 : tie.Need-plus-requires-3
 plus-requires-3 c κs = search needs
 
--- src/tunnel.rt:90:9
 returns : tie.Need-returns
 returns c = search reported-padding
 
--- src/tunnel.rt:92:5
 less-requires : tie.Need-less-requires
 less-requires c κs = search back-at
 
--- src/tunnel.rt:92:5
 plus-requires-4 : tie.Need-plus-requires-4
 plus-requires-4 c κs = search needs
 
--- src/tunnel.rt:92:5
 plus-requires-5 : tie.Need-plus-requires-5
 plus-requires-5 c κs = search needs
 
--- src/tunnel.rt:92:5
 later-requires : tie.Need-later-requires
 later-requires c κs = search needs
 
--- src/tunnel.rt:85:1
 returns-2 : tie.Need-returns-2
 returns-2 c = search reported-plain
 

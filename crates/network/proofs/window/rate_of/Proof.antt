@@ -1,18 +1,14 @@
+-- `network::window::rate_of` meets its contract. Assumes nothing.
 use Rattle.network.proofs.StampLaws.{rate-network, rate-queue, rate-none}
 use Rattle.network.proofs.window.rate_of.Statement.{statement}
 use Rattle.network.proofs.window.rate_of.Tie as tie
-use Rattle.network.proofs.window.rate_of.Reads as reads
-use Rattle.network.proofs.window.rate_of.Lts as lts
 
--- src/window.rt:37:9
 returns : tie.Need-returns
 returns c = search rate-network
 
--- src/window.rt:40:9
 returns-2 : tie.Need-returns-2
 returns-2 c = search rate-queue
 
--- src/window.rt:33:1
 returns-3 : tie.Need-returns-3
 returns-3 c = search rate-none
 

@@ -1,18 +1,14 @@
+-- `network_stack::plan::active` meets its contract. Assumes nothing.
 use Rattle.network_stack.proofs.PlanLaws.{active-sent, active-recv, active-not}
 use Rattle.network_stack.proofs.plan.active.Statement.{statement}
 use Rattle.network_stack.proofs.plan.active.Tie as tie
-use Rattle.network_stack.proofs.plan.active.Reads as reads
-use Rattle.network_stack.proofs.plan.active.Lts as lts
 
--- src/plan.rt:64:9
 returns : tie.Need-returns
 returns c = search active-sent
 
--- src/plan.rt:67:9
 returns-2 : tie.Need-returns-2
 returns-2 c = search active-recv
 
--- src/plan.rt:60:1
 returns-3 : tie.Need-returns-3
 returns-3 c = search active-not
 

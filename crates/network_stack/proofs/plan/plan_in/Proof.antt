@@ -1,33 +1,25 @@
+-- `network_stack::plan::plan_in` meets its contract. Assumes nothing.
 use mathlib.Core.Path.{sym}
 use Rattle.network_stack.proofs.PlanLaws.{front-long, parts-good, back-short, parts-planned}
 use borrow.Author.Needs.{needs}
 use Rattle.network_stack.proofs.plan.plan_in.Statement.{statement}
 use Rattle.network_stack.proofs.plan.plan_in.Tie as tie
-use Rattle.network_stack.proofs.plan.plan_in.Reads as reads
-use Rattle.network_stack.proofs.plan.plan_in.Lts as lts
-use Rattle.network_stack.proofs.plan.plan_of.Reads as plan-of-reads
 
--- src/plan.rt:56:13
 slice-aggregate-plan-of : tie.Need-slice-aggregate-plan-of
 slice-aggregate-plan-of c = sym (search front-long)
 
--- src/plan.rt:56:28
 sub-plan-of : tie.Need-sub-plan-of
 sub-plan-of c = search needs
 
--- src/plan.rt:56:28
 part-plan-of-start : tie.Need-part-plan-of-start
 part-plan-of-start c = search needs
 
--- src/plan.rt:56:28
 part-plan-of-end : tie.Need-part-plan-of-end
 part-plan-of-end c = search needs
 
--- src/plan.rt:56:5
 plan-of-requires : tie.Need-plan-of-requires
 plan-of-requires c κs = (search front-long, (search parts-good, (search back-short, search needs)))
 
--- src/plan.rt:52:1
 returns : tie.Need-returns
 returns c = search parts-planned
 

@@ -1,79 +1,57 @@
-use Rattle.network_stack.proofs.PlanLaws.{front-long}
+-- `network_stack::room::no_room` meets its contract. Assumes nothing.
 use Rattle.network_stack.proofs.FullLaws.{pad-fits, send-fits, by-fits, room-nothing, room-queue, room-pad, room-send}
 use borrow.Author.Needs.{needs}
 use Rattle.network_stack.proofs.room.no_room.Statement.{statement}
 use Rattle.network_stack.proofs.room.no_room.Tie as tie
-use Rattle.network_stack.proofs.room.no_room.Reads as reads
-use Rattle.network_stack.proofs.room.no_room.Lts as lts
-use Rattle.network.proofs.aggregate.records_for.Reads as aggregate-records-for-reads
-use Rattle.network.proofs.padding.records_for.Reads as padding-records-for-reads
-use Rattle.network_stack.proofs.room.reserved.Reads as reserved-reads
 
--- src/room.rt:25:9
 reserved-requires : tie.Need-reserved-requires
 reserved-requires c κs = search needs
 
--- src/room.rt:26:16
 shared-slice-read-free : tie.Need-shared-slice-read-free
 shared-slice-read-free c = search needs
 
--- src/room.rt:28:26
 enum-told : tie.Need-enum-told
 enum-told c = search needs
 
--- src/room.rt:29:34
 enum-told-2 : tie.Need-enum-told-2
 enum-told-2 c = search needs
 
--- src/room.rt:29:34
 add-result : tie.Need-add-result
 add-result c = search needs
 
--- src/room.rt:30:19
 enum-known-p : tie.Need-enum-known-p
 enum-known-p c = search needs
 
--- src/room.rt:30:42
 records-for-requires : tie.Need-records-for-requires
 records-for-requires c κs = search needs
 
--- src/room.rt:30:32
 add-result-2 : tie.Need-add-result-2
 add-result-2 c = search pad-fits
 
--- src/room.rt:31:20
 enum-known-p-2 : tie.Need-enum-known-p-2
 enum-known-p-2 c = search needs
 
--- src/room.rt:33:13
 add-result-3 : tie.Need-add-result-3
 add-result-3 c = search send-fits
 
--- src/room.rt:33:30
 add-result-4 : tie.Need-add-result-4
 add-result-4 c = search needs
 
--- src/room.rt:33:44
 records-for-requires-2 : tie.Need-records-for-requires-2
 records-for-requires-2 c κs = search needs
 
--- src/room.rt:33:30
 add-result-5 : tie.Need-add-result-5
 add-result-5 c = by-fits _ (c .before .before .before .before .before .before .reserved .result) (c .records-for2 .result) (c .before .before .before .before .before .before .reserved .ensures .1) (c .records-for2 .ensures)
 
--- src/room.rt:21:1
 returns : tie.Need-returns
 returns c = search room-nothing
 
--- src/room.rt:21:1
 returns-2 : tie.Need-returns-2
 returns-2 c = search room-queue
 
--- src/room.rt:21:1
 returns-3 : tie.Need-returns-3
 returns-3 c = search room-pad
 
--- src/room.rt:21:1
 returns-4 : tie.Need-returns-4
 returns-4 c = search room-send
 

@@ -1,21 +1,16 @@
+-- `network_stack::room::reserved` meets its contract. Assumes nothing.
 use mathlib.Core.Path.{sym}
 use Rattle.network_stack.proofs.PlanLaws.{front-long}
 use Rattle.network_stack.proofs.FullLaws.{reserved-in}
 use Rattle.network_stack.proofs.room.reserved.Statement.{statement}
 use Rattle.network_stack.proofs.room.reserved.Tie as tie
-use Rattle.network_stack.proofs.room.reserved.Reads as reads
-use Rattle.network_stack.proofs.room.reserved.Lts as lts
-use Rattle.accept.proofs.header.reserved.Reads as reserved-reads
 
--- src/room.rt:17:30
 slice-aggregate-reserved : tie.Need-slice-aggregate-reserved
 slice-aggregate-reserved c = sym (search front-long)
 
--- src/room.rt:17:5
 reserved-requires : tie.Need-reserved-requires
 reserved-requires c κs = search front-long
 
--- src/room.rt:13:1
 returns : tie.Need-returns
 returns c = reserved-in (c .before .before .before .args .block .now) _ (c .reserved .ensures)
 

@@ -1,3 +1,4 @@
+-- `queue::header::of_side` meets its contract. Assumes nothing.
 use native.Mathlib.Omega.{arith}
 use mathlib.Core.Path.{ap}
 use Prim.Native.Nat.{ℕ}
@@ -6,34 +7,25 @@ use Rattle.queue.proofs.Sides.{side-client, side-server}
 use borrow.Author.Needs.{needs}
 use Rattle.queue.proofs.header.of_side.Statement.{statement}
 use Rattle.queue.proofs.header.of_side.Tie as tie
-use Rattle.queue.proofs.header.of_side.Reads as reads
-use Rattle.queue.proofs.header.of_side.Lts as lts
 
--- src/header.rt:31:16
 mul-result : tie.Need-mul-result
 mul-result c = search needs
 
--- src/header.rt:31:16
 shared-slice-read-result : tie.Need-shared-slice-read-result
 shared-slice-read-result c = search needs
 
--- src/header.rt:31:9
 returns : tie.Need-returns
 returns c = let z = side-client _ (c .before .if1 .taken) in ap (λ (i : ℕ). getD (c .before .before .args .head .now) i 0) (omega (arith, z))
 
--- src/header.rt:33:10
 add-result : tie.Need-add-result
 add-result c = search needs
 
--- src/header.rt:33:5
 mul-result-2 : tie.Need-mul-result-2
 mul-result-2 c = search needs
 
--- src/header.rt:33:5
 shared-slice-read-result-2 : tie.Need-shared-slice-read-result-2
 shared-slice-read-result-2 c = search needs
 
--- src/header.rt:26:1
 returns-2 : tie.Need-returns-2
 returns-2 c = let z = side-server _ (c .before .if1 .left) in ap (λ (i : ℕ). getD (c .before .before .args .head .now) i 0) (omega (arith, z))
 

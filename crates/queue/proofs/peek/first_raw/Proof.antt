@@ -1,44 +1,33 @@
+-- `queue::peek::first_raw` meets its contract. Assumes nothing.
 use borrow.Author.Needs.{needs}
 use Rattle.queue.proofs.HeadsOrder.{known-at, chosen-none, chosen-only, chosen-second, chosen-first}
 use Rattle.queue.proofs.peek.first_raw.Statement.{statement}
 use Rattle.queue.proofs.peek.first_raw.Tie as tie
-use Rattle.queue.proofs.peek.first_raw.Reads as reads
-use Rattle.queue.proofs.peek.first_raw.Lts as lts
-use Rattle.queue.proofs.peek.earlier_raw.Reads as earlier-raw-reads
 
--- src/peek.rt:127:19
 enum-known-a : tie.Need-enum-known-a
 enum-known-a c = search needs
 
--- src/peek.rt:128:9
 enum-told : tie.Need-enum-told
 enum-told c = search needs
 
--- src/peek.rt:128:9
 returns : tie.Need-returns
 returns c = search chosen-none
 
--- src/peek.rt:130:19
 enum-known-b : tie.Need-enum-known-b
 enum-known-b c = search needs
 
--- src/peek.rt:131:9
 enum-told-2 : tie.Need-enum-told-2
 enum-told-2 c = search needs
 
--- src/peek.rt:131:9
 returns-2 : tie.Need-returns-2
 returns-2 c = search chosen-only
 
--- src/peek.rt:133:8
 earlier-raw-requires : tie.Need-earlier-raw-requires
 earlier-raw-requires c κs = (search known-at, search known-at)
 
--- src/peek.rt:134:9
 returns-3 : tie.Need-returns-3
 returns-3 c = search chosen-second
 
--- src/peek.rt:123:1
 returns-4 : tie.Need-returns-4
 returns-4 c = search chosen-first
 

@@ -1,3 +1,4 @@
+-- `queue::records::set_chain` meets its contract. Assumes nothing.
 use Rattle.layout.specs.Changes.{putChain}
 use lib.ListN.{length-set}
 use native.Mathlib.Omega.{arith}
@@ -5,46 +6,34 @@ use mathlib.Core.Path.{refl}
 use borrow.Author.Needs.{needs}
 use Rattle.queue.proofs.records.set_chain.Statement.{statement}
 use Rattle.queue.proofs.records.set_chain.Tie as tie
-use Rattle.queue.proofs.records.set_chain.Reads as reads
-use Rattle.queue.proofs.records.set_chain.Lts as lts
 
--- src/records.rt:76:16
 mul-block : tie.Need-mul-block
 mul-block c = search needs
 
--- src/records.rt:76:11
 add-block : tie.Need-add-block
 add-block c = search needs
 
--- src/records.rt:76:5
 mul-block-2 : tie.Need-mul-block-2
 mul-block-2 c = search needs
 
--- src/records.rt:76:5
 slice-write-block : tie.Need-slice-write-block
 slice-write-block c = search needs
 
--- src/records.rt:77:16
 mul-block-3 : tie.Need-mul-block-3
 mul-block-3 c = search needs
 
--- src/records.rt:77:11
 add-block-2 : tie.Need-add-block-2
 add-block-2 c = search needs
 
--- src/records.rt:77:5
 mul-block-4 : tie.Need-mul-block-4
 mul-block-4 c = search needs
 
--- src/records.rt:77:5
 slice-write-block-2 : tie.Need-slice-write-block-2
 slice-write-block-2 c = simp length-set (omega arith)
 
--- src/records.rt:72:1
 same-length : tie.Need-same-length
 same-length c = search needs
 
--- src/records.rt:72:1
 returns : tie.Need-returns
 unfolding putChain
 returns c = refl

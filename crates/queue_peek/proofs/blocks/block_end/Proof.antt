@@ -1,24 +1,18 @@
+-- `queue_peek::blocks::block_end` meets its contract. Assumes nothing.
 use borrow.Author.Needs.{needs}
 use Rattle.queue_peek.proofs.BlockLaws.{no-end, its-end}
 use Rattle.queue_peek.proofs.blocks.block_end.Statement.{statement}
 use Rattle.queue_peek.proofs.blocks.block_end.Tie as tie
-use Rattle.queue_peek.proofs.blocks.block_end.Reads as reads
-use Rattle.queue_peek.proofs.blocks.block_end.Lts as lts
-use Rattle.queue.proofs.header.of_side.Reads as of-side-reads
 
--- src/blocks.rt:65:9
 of-side-requires : tie.Need-of-side-requires
 of-side-requires c κs = search needs
 
--- src/blocks.rt:67:9
 returns : tie.Need-returns
 returns c = search no-end
 
--- src/blocks.rt:69:12
 sub-t6 : tie.Need-sub-t6
 sub-t6 c = search needs
 
--- src/blocks.rt:61:1
 returns-2 : tie.Need-returns-2
 returns-2 c = search its-end
 

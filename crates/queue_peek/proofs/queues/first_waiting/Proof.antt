@@ -1,44 +1,33 @@
+-- `queue_peek::queues::first_waiting` meets its contract. Assumes nothing.
 use borrow.Author.Needs.{needs}
 use Rattle.queue.proofs.HeadsOrder.{chosen-none, chosen-only, chosen-second, chosen-first}
 use Rattle.queue_peek.proofs.queues.first_waiting.Statement.{statement}
 use Rattle.queue_peek.proofs.queues.first_waiting.Tie as tie
-use Rattle.queue_peek.proofs.queues.first_waiting.Reads as reads
-use Rattle.queue_peek.proofs.queues.first_waiting.Lts as lts
-use Rattle.queue_peek.proofs.queues.waiting_first.Reads as waiting-first-reads
 
--- src/queues.rt:71:19
 enum-known-passing : tie.Need-enum-known-passing
 enum-known-passing c = search needs
 
--- src/queues.rt:72:9
 enum-told : tie.Need-enum-told
 enum-told c = search needs
 
--- src/queues.rt:72:9
 returns : tie.Need-returns
 returns c = search chosen-none
 
--- src/queues.rt:74:19
 enum-known-waiting : tie.Need-enum-known-waiting
 enum-known-waiting c = search needs
 
--- src/queues.rt:75:9
 enum-told-2 : tie.Need-enum-told-2
 enum-told-2 c = search needs
 
--- src/queues.rt:75:9
 returns-2 : tie.Need-returns-2
 returns-2 c = search chosen-only
 
--- src/queues.rt:77:8
 waiting-first-requires : tie.Need-waiting-first-requires
 waiting-first-requires c κs = search needs
 
--- src/queues.rt:78:9
 returns-3 : tie.Need-returns-3
 returns-3 c = search chosen-second
 
--- src/queues.rt:68:1
 returns-4 : tie.Need-returns-4
 returns-4 c = search chosen-first
 

@@ -1,3 +1,4 @@
+-- `queue_peek::slots::least_timer` meets its contract. Assumes nothing.
 use Prim.Native.Nat.{_≤_}
 use mathlib.Core.Path.{_≡_}
 use native.Mathlib.Omega.{arith}
@@ -7,11 +8,6 @@ use Rattle.queue_peek.specs.Promises.{timersFromOn}
 use Rattle.queue_peek.proofs.SlotDelays.{timers-start, timers-turn, timers-end}
 use Rattle.queue_peek.proofs.slots.least_timer.Statement.{statement}
 use Rattle.queue_peek.proofs.slots.least_timer.Tie as tie
-use Rattle.queue_peek.proofs.slots.least_timer.Reads as reads
-use Rattle.queue_peek.proofs.slots.least_timer.Lts as lts
-use Rattle.queue_peek.proofs.order.earlier.Reads as earlier-reads
-use Rattle.queue_peek.proofs.slots.timer_delay.Reads as timer-delay-reads
-use Rattle.queue_peek.proofs.slots.timer_slot.Reads as timer-slot-reads
 
 abbrev Inv-loop : tie.InvT-loop
 Inv-loop head client time best₀ m₀ best m = (m ≤ 16) × (delayOf best ≡ timersFromOn head client (time .0) m)
@@ -19,43 +15,33 @@ Inv-loop head client time best₀ m₀ best m = (m ≤ 16) × (delayOf best ≡ 
 abbrev μ-loop : tie.MeasureT-loop
 μ-loop head client time best₀ m₀ best m = m
 
--- src/slots.rt:77:5
 loop-holds : tie.Need-loop-holds Inv-loop μ-loop
 loop-holds c = (omega arith, search timers-start)
 
--- src/slots.rt:78:13
 sub-m : tie.Need-sub-m Inv-loop μ-loop
 sub-m c = omega arith
 
--- src/slots.rt:79:13
 timer-slot-requires : tie.Need-timer-slot-requires Inv-loop μ-loop
 timer-slot-requires c κs = omega arith
 
--- src/slots.rt:80:29
 mul-timer-delay : tie.Need-mul-timer-delay Inv-loop μ-loop
 mul-timer-delay c = omega arith
 
--- src/slots.rt:80:29
 shared-slice-read-timer-delay : tie.Need-shared-slice-read-timer-delay Inv-loop μ-loop
 shared-slice-read-timer-delay c = omega arith
 
--- src/slots.rt:80:13
 timer-delay-requires : tie.Need-timer-delay-requires Inv-loop μ-loop
 timer-delay-requires c κs = search needs
 
--- src/slots.rt:81:9
 earlier-requires : tie.Need-earlier-requires Inv-loop μ-loop
 earlier-requires c κs = search needs
 
--- src/slots.rt:77:5
 loop-less : tie.Need-loop-less Inv-loop μ-loop
 loop-less c = omega arith
 
--- src/slots.rt:77:5
 loop-again : tie.Need-loop-again Inv-loop μ-loop
 loop-again c = (omega arith, search timers-turn)
 
--- src/slots.rt:71:1
 returns : tie.Need-returns Inv-loop μ-loop
 returns c = search timers-end
 

@@ -1,24 +1,19 @@
+-- `queue_peek::slots::timer_slot` meets its contract. Assumes nothing.
 use native.Mathlib.Omega.{arith}
 use borrow.Author.Needs.{needs}
 use Rattle.queue.proofs.Sides.{side-client, side-server}
 use Rattle.queue_peek.proofs.slots.timer_slot.Statement.{statement}
 use Rattle.queue_peek.proofs.slots.timer_slot.Tie as tie
-use Rattle.queue_peek.proofs.slots.timer_slot.Reads as reads
-use Rattle.queue_peek.proofs.slots.timer_slot.Lts as lts
 
--- src/slots.rt:54:16
 add-result : tie.Need-add-result
 add-result c = search needs
 
--- src/slots.rt:54:9
 returns : tie.Need-returns
 returns c = let z = side-client _ (c .if1 .taken) in (omega (arith, z), omega arith)
 
--- src/slots.rt:56:5
 add-result-2 : tie.Need-add-result-2
 add-result-2 c = search needs
 
--- src/slots.rt:49:1
 returns-2 : tie.Need-returns-2
 returns-2 c = let z = side-server _ (c .if1 .left) in (omega (arith, z), omega arith)
 

@@ -1,16 +1,12 @@
+-- `round::actions::begin_event` meets its contract. Assumes nothing.
 use Rattle.round.proofs.ActionLaws.{begin-shows}
 use borrow.Author.Needs.{needs}
 use Rattle.round.proofs.actions.begin_event.Statement.{statement}
 use Rattle.round.proofs.actions.begin_event.Tie as tie
-use Rattle.round.proofs.actions.begin_event.Reads as reads
-use Rattle.round.proofs.actions.begin_event.Lts as lts
-use Rattle.moment.proofs.Moment.plus.Reads as plus-reads
 
--- src/actions.rt:74:9
 plus-requires : tie.Need-plus-requires
 plus-requires c κs = search needs
 
--- src/actions.rt:69:1
 returns : tie.Need-returns
 returns c = begin-shows (c .before .before .args .p) (c .before .before .args .delay) (c .before .before .args .bypass) _ (c .before .before .pre .0) (c .plus .ensures)
 

@@ -1,38 +1,27 @@
+-- `round::actions::do_scheduled_action` meets its contract. Assumes nothing.
 use Rattle.round.proofs.ActionDone.{send-may, send-done, start-may, start-done}
 use borrow.Author.Needs.{needs}
 use Rattle.round.proofs.actions.do_scheduled_action.Statement.{statement}
 use Rattle.round.proofs.actions.do_scheduled_action.Tie as tie
-use Rattle.round.proofs.actions.do_scheduled_action.Reads as reads
-use Rattle.round.proofs.actions.do_scheduled_action.Lts as lts
-use Rattle.round.proofs.actions.send_padding.Reads as send-padding-reads
-use Rattle.round.proofs.actions.start_block.Reads as start-block-reads
-use Rattle.round.proofs.stores.clear_action.Reads as clear-action-reads
 
--- src/actions.rt:155:5
 clear-action-requires : tie.Need-clear-action-requires
 clear-action-requires c κs = (c .before .before .pre .room .shaped, c .before .before .pre .machine)
 
--- src/actions.rt:158:9
 send-padding-requires : tie.Need-send-padding-requires
 send-padding-requires c κs = send-may _ (c .before .before .before .before .before .before .before .before .before .args .p) (c .before .before .before .before .before .before .before .before .before .pre) _ (c .before .before .before .before .before .before .clear-action .ensures)
 
--- src/actions.rt:159:9
 same-length : tie.Need-same-length
 same-length c = search needs
 
--- src/actions.rt:159:9
 returns : tie.Need-returns
 returns c = send-done _ (c .before .before .before .before .before .before .before .before .before .before .before .before .args .p) (c .before .before .before .before .before .before .before .before .before .before .before .before .pre) _ (c .before .before .before .before .before .before .before .before .before .clear-action .ensures) (c .before .before .before .before .if1 .taken) _ (c .before .before .send-padding .ensures)
 
--- src/actions.rt:161:5
 start-block-requires : tie.Need-start-block-requires
 start-block-requires c κs = start-may _ (c .before .before .before .before .before .before .before .before .before .args .p) (c .before .before .before .before .before .before .before .before .before .pre) _ (c .before .before .before .before .before .before .clear-action .ensures) (c .before .if1 .left)
 
--- src/actions.rt:151:1
 same-length-2 : tie.Need-same-length-2
 same-length-2 c = search needs
 
--- src/actions.rt:151:1
 returns-2 : tie.Need-returns-2
 returns-2 c = start-done _ (c .before .before .before .before .before .before .before .before .before .before .before .before .args .p) (c .before .before .before .before .before .before .before .before .before .before .before .before .pre) _ (c .before .before .before .before .before .before .before .before .before .clear-action .ensures) (c .before .before .before .before .if1 .left) _ (c .before .before .start-block .ensures)
 

@@ -1,11 +1,8 @@
+-- `round::actions::padding_event` meets its contract. Assumes nothing.
 use Rattle.round.proofs.ActionLaws.{padding-shows}
-use borrow.Author.Needs.{needs}
 use Rattle.round.proofs.actions.padding_event.Statement.{statement}
 use Rattle.round.proofs.actions.padding_event.Tie as tie
-use Rattle.round.proofs.actions.padding_event.Reads as reads
-use Rattle.round.proofs.actions.padding_event.Lts as lts
 
--- src/actions.rt:53:1
 returns : tie.Need-returns
 returns c = padding-shows (c .before .before .args .p) (c .before .before .args .delay) (c .before .before .pre)
 

@@ -1,3 +1,4 @@
+-- `round::actions::sets_block` meets its contract. Assumes nothing.
 use Rattle.event.specs.HandedIn.{sideOf}
 use Rattle.layout.specs.Layout.{stateOf}
 use Rattle.rules.specs.State.{side}
@@ -6,33 +7,22 @@ use Rattle.round.proofs.ActionLaws.{sets-replace, sets-later}
 use borrow.Author.Needs.{needs}
 use Rattle.round.proofs.actions.sets_block.Statement.{statement}
 use Rattle.round.proofs.actions.sets_block.Tie as tie
-use Rattle.round.proofs.actions.sets_block.Reads as reads
-use Rattle.round.proofs.actions.sets_block.Lts as lts
-use Rattle.moment.proofs.Moment.before.Reads as before-reads
-use Rattle.moment.proofs.Moment.plus.Reads as plus-reads
-use Rattle.queue_peek.proofs.blocks.block_end.Reads as block-end-reads
 
--- src/actions.rt:93:9
 returns : tie.Need-returns
 returns c = sets-replace (side (stateOf (c .before .before .args .block .now)) (sideOf (c .before .before .args .client))) (c .before .before .args .a) (c .if1 .taken)
 
--- src/actions.rt:95:33
 slice-aggregate-block-end : tie.Need-slice-aggregate-block-end
 slice-aggregate-block-end c = search needs
 
--- src/actions.rt:95:9
 block-end-requires : tie.Need-block-end-requires
 block-end-requires c κs = search needs
 
--- src/actions.rt:96:16
 plus-requires : tie.Need-plus-requires
 plus-requires c κs = search needs
 
--- src/actions.rt:96:5
 before-requires : tie.Need-before-requires
 before-requires c κs = search needs
 
--- src/actions.rt:88:1
 returns-2 : tie.Need-returns-2
 returns-2 c = sets-later (side (stateOf (c .before .before .before .before .before .before .args .block .now)) (sideOf (c .before .before .before .before .before .before .args .client))) (c .before .before .before .before .before .before .args .a) _ _ _ (c .before .before .before .before .if1 .left) (c .before .before .block-end .ensures (drop 256 (c .before .before .before .before .before .before .args .block .now))) (c .before .plus .ensures) (c .before2 .ensures)
 

@@ -1,40 +1,27 @@
+-- `round::actions::start_block` meets its contract. Assumes nothing.
 use Rattle.round.proofs.ActionLaws.{delays-fit, begin-fits, begin-may, begin-done}
 use borrow.Author.Needs.{needs}
 use Rattle.round.proofs.actions.start_block.Statement.{statement}
 use Rattle.round.proofs.actions.start_block.Tie as tie
-use Rattle.round.proofs.actions.start_block.Reads as reads
-use Rattle.round.proofs.actions.start_block.Lts as lts
-use Rattle.queue.proofs.records.push_sim.Reads as push-sim-reads
-use Rattle.round.proofs.actions.begin_block.Reads as begin-block-reads
-use Rattle.round.proofs.actions.begin_event.Reads as begin-event-reads
-use Rattle.round.proofs.actions.both_delays.Reads as both-delays-reads
-use Rattle.round.proofs.actions.bypassable.Reads as bypassable-reads
 
--- src/actions.rt:131:5
 begin-block-requires : tie.Need-begin-block-requires
 begin-block-requires c κs = (c .before .before .pre .room .shaped, c .before .before .pre .end)
 
--- src/actions.rt:132:9
 bypassable-requires : tie.Need-bypassable-requires
 bypassable-requires c κs = c .before .before .before .begin-block .ensures .shaped
 
--- src/actions.rt:133:9
 both-delays-requires : tie.Need-both-delays-requires
 both-delays-requires c κs = (c .before .before .before .before .before .begin-block .ensures .shaped, delays-fit _ (c .before .before .before .before .before .before .before .before .args .p) (c .before .before .before .before .before .before .before .before .pre) _ (c .before .before .before .before .before .begin-block .ensures))
 
--- src/actions.rt:134:9
 begin-event-requires : tie.Need-begin-event-requires
 begin-event-requires c κs = (c .before .before .before .before .before .before .before .before .before .pre .machine, begin-fits _ (c .before .before .before .before .before .before .before .before .before .args .p) (c .before .before .before .before .before .before .before .before .before .pre) _ (c .before .before .before .before .before .before .begin-block .ensures) _ (c .both-delays .ensures))
 
--- src/actions.rt:135:5
 push-sim-requires : tie.Need-push-sim-requires
 push-sim-requires c κs = begin-may _ (c .before .before .before .before .before .before .before .before .before .before .before .args .p) (c .before .before .before .before .before .before .before .before .before .before .before .pre) _ (c .before .before .before .before .before .before .before .before .begin-block .ensures) _ (c .before .before .both-delays .ensures) _ (c .before .before .before .before .bypassable .ensures) _ (c .before .begin-event .ensures)
 
--- src/actions.rt:127:1
 same-length : tie.Need-same-length
 same-length c = search needs
 
--- src/actions.rt:127:1
 returns : tie.Need-returns
 returns c = begin-done _ (c .before .before .before .before .before .before .before .before .before .before .before .before .before .before .args .p) (c .before .before .before .before .before .before .before .before .before .before .before .before .before .before .pre) _ (c .before .before .before .before .before .before .before .before .before .before .before .begin-block .ensures) _ (c .before .before .before .before .before .both-delays .ensures) _ (c .before .before .before .before .before .before .before .bypassable .ensures) _ (c .before .before .before .before .begin-event .ensures) _ (c .before .before .push-sim .ensures)
 

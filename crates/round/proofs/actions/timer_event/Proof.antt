@@ -1,11 +1,8 @@
+-- `round::actions::timer_event` meets its contract. Assumes nothing.
 use Rattle.round.proofs.ActionLaws.{timer-shows}
-use borrow.Author.Needs.{needs}
 use Rattle.round.proofs.actions.timer_event.Statement.{statement}
 use Rattle.round.proofs.actions.timer_event.Tie as tie
-use Rattle.round.proofs.actions.timer_event.Reads as reads
-use Rattle.round.proofs.actions.timer_event.Lts as lts
 
--- src/actions.rt:26:1
 returns : tie.Need-returns
 returns c = timer-shows (c .before .args .d) (c .before .pre)
 

@@ -1,52 +1,36 @@
+-- `round::blocks::end_block` meets its contract. Assumes nothing.
 use Rattle.round.proofs.BlockLaws.{end-fits, end-returned, end-may, end-queued}
 use borrow.Author.Needs.{needs}
 use Rattle.round.proofs.blocks.end_block.Statement.{statement}
 use Rattle.round.proofs.blocks.end_block.Tie as tie
-use Rattle.round.proofs.blocks.end_block.Reads as reads
-use Rattle.round.proofs.blocks.end_block.Lts as lts
-use Rattle.moment.proofs.Moment.later.Reads as later-reads
-use Rattle.queue.proofs.records.push_sim.Reads as push-sim-reads
-use Rattle.round.proofs.blocks.clear_block.Reads as clear-block-reads
-use Rattle.round.proofs.blocks.end_event.Reads as end-event-reads
-use Rattle.round.proofs.stores.reporting_delay.Reads as reporting-delay-reads
 
--- src/blocks.rt:70:5
 clear-block-requires : tie.Need-clear-block-requires
 clear-block-requires c κs = c .before .before .pre .0
 
--- src/blocks.rt:71:9
 reporting-delay-requires : tie.Need-reporting-delay-requires
 reporting-delay-requires c κs = c .before .before .before .clear-block .ensures .shaped
 
--- src/blocks.rt:72:33
 later-requires : tie.Need-later-requires
 later-requires c κs = search needs
 
--- src/blocks.rt:72:9
 end-event-requires : tie.Need-end-event-requires
 end-event-requires c κs = end-fits _ _ (c .before .before .before .before .before .before .before .before .args .k) (c .before .before .before .before .before .before .before .before .pre .0) _ (c .before .before .before .before .before .clear-block .ensures) _ (c .before .reporting-delay .ensures) _ (c .later .ensures)
 
--- src/blocks.rt:74:72
 add-t14 : tie.Need-add-t14
 add-t14 c = search needs
 
--- src/blocks.rt:74:9
 same-length : tie.Need-same-length
 same-length c = search needs
 
--- src/blocks.rt:74:9
 returns : tie.Need-returns
 returns c = end-returned _ _ (c .before .before .before .before .before .before .before .before .before .before .before .args .k) (c .before .before .before .before .before .before .before .before .before .before .before .pre .0) _ (c .before .before .before .before .before .before .before .before .clear-block .ensures) _ (c .before .before .before .before .reporting-delay .ensures) _ (c .before .before .before .later .ensures) _ (c .before .before .end-event .ensures) _ (c .if1 .taken)
 
--- src/blocks.rt:76:5
 push-sim-requires : tie.Need-push-sim-requires
 push-sim-requires c κs = end-may _ _ (c .before .before .before .before .before .before .before .before .before .before .before .before .args .k) (c .before .before .before .before .before .before .before .before .before .before .before .before .pre .0) _ (c .before .before .before .before .before .before .before .before .before .clear-block .ensures) _ (c .before .before .before .before .before .reporting-delay .ensures) _ (c .before .before .before .before .later .ensures) _ (c .before .before .before .end-event .ensures)
 
--- src/blocks.rt:66:1
 same-length-2 : tie.Need-same-length-2
 same-length-2 c = search needs
 
--- src/blocks.rt:66:1
 returns-2 : tie.Need-returns-2
 returns-2 c = end-queued _ _ (c .before .before .before .before .before .before .before .before .before .before .before .before .before .before .before .args .k) (c .before .before .before .before .before .before .before .before .before .before .before .before .before .before .before .pre .0) _ (c .before .before .before .before .before .before .before .before .before .before .before .before .clear-block .ensures) _ (c .before .before .before .before .before .before .before .before .reporting-delay .ensures) _ (c .before .before .before .before .before .before .before .later .ensures) _ (c .before .before .before .before .before .before .end-event .ensures) _ (c .before .before .before .before .if1 .left) _ (c .before .before .push-sim .ensures)
 

@@ -1,5 +1,5 @@
+-- `round::choice::pick_next_rounds` meets its contract. Assumes nothing.
 use borrow.Author.Needs.{needs}
-use native.Mathlib.Omega.{arith}
 use Rattle.rules.specs.State.{roundsLeft}
 use Rattle.layout.specs.Layout.{stateOf}
 use Rattle.round.specs.Rounds.{Choosing}
@@ -7,9 +7,6 @@ use Rattle.round.proofs.ActLaws.{rounds-fit}
 use Rattle.round.proofs.ChoiceLaws.{choice-begins, choice-ends, turn-falls, turn-goes}
 use Rattle.round.proofs.choice.pick_next_rounds.Statement.{statement}
 use Rattle.round.proofs.choice.pick_next_rounds.Tie as tie
-use Rattle.round.proofs.choice.pick_next_rounds.Reads as reads
-use Rattle.round.proofs.choice.pick_next_rounds.Lts as lts
-use Rattle.round.proofs.round.round.Reads as round-reads
 
 abbrev Inv-loop : tie.InvT-loop
 Inv-loop block₀ time rounds₀ block rounds = Choosing block₀ block (time .0) rounds
@@ -17,38 +14,30 @@ Inv-loop block₀ time rounds₀ block rounds = Choosing block₀ block (time .0
 abbrev μ-loop : tie.MeasureT-loop
 μ-loop block₀ time rounds₀ block rounds = roundsLeft (stateOf block)
 
--- src/choice.rt:14:5
 loop-holds : tie.Need-loop-holds Inv-loop μ-loop
 loop-holds c = choice-begins _ _ (c .before .pre)
 
--- src/choice.rt:15:13
 round-requires : tie.Need-round-requires Inv-loop μ-loop
 round-requires c κs = c .before .loop .inv .may
 
--- src/choice.rt:16:31
 enum-known-p : tie.Need-enum-known-p Inv-loop μ-loop
 enum-known-p c = search needs
 
--- src/choice.rt:17:13
 same-length : tie.Need-same-length Inv-loop μ-loop
 same-length c = search needs
 
--- src/choice.rt:17:13
 returns : tie.Need-returns Inv-loop μ-loop
 returns c = choice-ends _ _ _ _ _ _ (c .before .before .before .before .before .before .before .loop .inv) (c .before .before .before .before .before .round .ensures) _ (search needs)
 
 enum-told : tie.Need-enum-told Inv-loop μ-loop
 enum-told c = search needs
 
--- src/choice.rt:19:18
 add-rounds : tie.Need-add-rounds Inv-loop μ-loop
 add-rounds c = record { fits = rounds-fit _ _ _ (c .before .before .before .before .before .before .loop .inv .may) }
 
--- src/choice.rt:14:5
 loop-less : tie.Need-loop-less Inv-loop μ-loop
 loop-less c = turn-falls _ _ _ _ _ _ (c .before .before .before .before .before .before .loop .inv) (c .before .before .before .before .round .ensures) (search needs)
 
--- src/choice.rt:14:5
 loop-again : tie.Need-loop-again Inv-loop μ-loop
 loop-again c = turn-goes _ _ _ _ _ _ (c .before .before .before .before .before .before .loop .inv) (c .before .before .before .before .round .ensures) (search needs)
 

@@ -1,33 +1,25 @@
+-- `round::round::candidate_fits_in` meets its contract. Assumes nothing.
 use Rattle.layout.proofs.Parts.{head-length, rest-part}
 use mathlib.Core.Path.{sym}
 use borrow.Author.Needs.{needs}
 use Rattle.round.proofs.round.candidate_fits_in.Statement.{statement}
 use Rattle.round.proofs.round.candidate_fits_in.Tie as tie
-use Rattle.round.proofs.round.candidate_fits_in.Reads as reads
-use Rattle.round.proofs.round.candidate_fits_in.Lts as lts
-use Rattle.candidate.proofs.sums.candidate_fits.Reads as candidate-fits-reads
 
--- src/round.rt:52:26
 slice-aggregate-candidate-fits : tie.Need-slice-aggregate-candidate-fits
 slice-aggregate-candidate-fits c = sym (head-length (c .before .before .args .block .now) (c .before .before .pre .0 .size .least))
 
--- src/round.rt:52:41
 sub-candidate-fits : tie.Need-sub-candidate-fits
 sub-candidate-fits c = search needs
 
--- src/round.rt:52:41
 part-candidate-fits-start : tie.Need-part-candidate-fits-start
 part-candidate-fits-start c = search needs
 
--- src/round.rt:52:41
 part-candidate-fits-end : tie.Need-part-candidate-fits-end
 part-candidate-fits-end c = search needs
 
--- src/round.rt:52:5
 candidate-fits-requires : tie.Need-candidate-fits-requires
 candidate-fits-requires c κs = (head-length (c .before .before .before .args .block .now) (c .before .before .before .pre .0 .size .least), (rw rest-part (c .before .before .before .pre .0 .good), (c .before .before .before .pre .1 .0, rw rest-part (c .before .before .before .pre .1 .1))))
 
--- src/round.rt:48:1
 returns : tie.Need-returns
 returns c = rw rest-part at (c .candidate-fits .ensures)
 

@@ -1,33 +1,25 @@
+-- `round::round::candidate_in` meets its contract. Assumes nothing.
 use Rattle.layout.proofs.Parts.{head-length, rest-part}
 use mathlib.Core.Path.{sym}
 use borrow.Author.Needs.{needs}
 use Rattle.round.proofs.round.candidate_in.Statement.{statement}
 use Rattle.round.proofs.round.candidate_in.Tie as tie
-use Rattle.round.proofs.round.candidate_in.Reads as reads
-use Rattle.round.proofs.round.candidate_in.Lts as lts
-use Rattle.candidate.proofs.first.candidate.Reads as candidate-reads
 
--- src/round.rt:45:22
 slice-aggregate-candidate : tie.Need-slice-aggregate-candidate
 slice-aggregate-candidate c = sym (head-length (c .before .before .args .block .now) (c .before .before .pre .0 .size .least))
 
--- src/round.rt:45:37
 sub-candidate : tie.Need-sub-candidate
 sub-candidate c = search needs
 
--- src/round.rt:45:37
 part-candidate-start : tie.Need-part-candidate-start
 part-candidate-start c = search needs
 
--- src/round.rt:45:37
 part-candidate-end : tie.Need-part-candidate-end
 part-candidate-end c = search needs
 
--- src/round.rt:45:5
 candidate-requires : tie.Need-candidate-requires
 candidate-requires c κs = (head-length (c .before .before .before .args .block .now) (c .before .before .before .pre .0 .size .least), (rw rest-part (c .before .before .before .pre .0 .good), c .before .before .before .pre .1))
 
--- src/round.rt:41:1
 returns : tie.Need-returns
 returns c = rw rest-part at (c .candidate .ensures)
 

@@ -1,3 +1,4 @@
+-- `round::stores::action_delay` meets its contract. Assumes nothing.
 use Rattle.round.proofs.HeaderWords.{action-word}
 use Rattle.event.specs.HandedIn.{sideOf}
 use mathlib.Core.Path.{ap, _∙_}
@@ -6,23 +7,16 @@ use lib.ListN.{getD}
 use borrow.Author.Needs.{needs}
 use Rattle.round.proofs.stores.action_delay.Statement.{statement}
 use Rattle.round.proofs.stores.action_delay.Tie as tie
-use Rattle.round.proofs.stores.action_delay.Reads as reads
-use Rattle.round.proofs.stores.action_delay.Lts as lts
-use Rattle.queue.proofs.header.place.Reads as place-reads
 
--- src/stores.rt:112:9
 place-requires : tie.Need-place-requires
 place-requires c κs = search needs
 
--- src/stores.rt:113:12
 mul-t4 : tie.Need-mul-t4
 mul-t4 c = search needs
 
--- src/stores.rt:113:12
 shared-slice-read-t6 : tie.Need-shared-slice-read-t6
 shared-slice-read-t6 c = search needs
 
--- src/stores.rt:108:1
 returns : tie.Need-returns
 returns c = ap (λ (i : ℕ). getD (c .before .before .before .args .block .now) i 0) (c .before .place .ensures .0) ∙ action-word (c .before .before .before .args .block .now) (sideOf (c .before .before .before .args .client))
 

@@ -1,3 +1,4 @@
+-- `round::stores::clear_action` meets its contract. Assumes nothing.
 use Rattle.round.proofs.HeaderWords.{action-cleared}
 use Rattle.event.specs.HandedIn.{sideOf}
 use lib.ListN.{length-set}
@@ -5,67 +6,49 @@ use native.Mathlib.Omega.{arith}
 use borrow.Author.Needs.{needs}
 use Rattle.round.proofs.stores.clear_action.Statement.{statement}
 use Rattle.round.proofs.stores.clear_action.Tie as tie
-use Rattle.round.proofs.stores.clear_action.Reads as reads
-use Rattle.round.proofs.stores.clear_action.Lts as lts
-use Rattle.round.proofs.stores.slot.Reads as slot-reads
 
--- src/stores.rt:77:9
 slot-requires : tie.Need-slot-requires
 slot-requires c κs = search needs
 
--- src/stores.rt:78:16
 mul-block : tie.Need-mul-block
 mul-block c = search needs
 
--- src/stores.rt:78:11
 add-block : tie.Need-add-block
 add-block c = search needs
 
--- src/stores.rt:78:5
 mul-block-2 : tie.Need-mul-block-2
 mul-block-2 c = search needs
 
--- src/stores.rt:78:5
 slice-write-block : tie.Need-slice-write-block
 slice-write-block c = search needs
 
--- src/stores.rt:79:16
 mul-block-3 : tie.Need-mul-block-3
 mul-block-3 c = search needs
 
--- src/stores.rt:79:11
 add-block-2 : tie.Need-add-block-2
 add-block-2 c = search needs
 
--- src/stores.rt:79:5
 mul-block-4 : tie.Need-mul-block-4
 mul-block-4 c = search needs
 
--- src/stores.rt:79:5
 slice-write-block-2 : tie.Need-slice-write-block-2
 slice-write-block-2 c = simp length-set (omega (arith, c .before .before .pre .0 .size .least, c .slot .ensures .1))
 
--- src/stores.rt:80:16
 mul-block-5 : tie.Need-mul-block-5
 mul-block-5 c = search needs
 
--- src/stores.rt:80:11
 add-block-3 : tie.Need-add-block-3
 add-block-3 c = search needs
 
--- src/stores.rt:80:5
 mul-block-6 : tie.Need-mul-block-6
 mul-block-6 c = search needs
 
--- src/stores.rt:80:5
 slice-write-block-3 : tie.Need-slice-write-block-3
 slice-write-block-3 c = simp length-set (omega (arith, c .before .before .pre .0 .size .least, c .slot .ensures .1))
 
--- src/stores.rt:73:1
 same-length : tie.Need-same-length
 same-length c = search needs
 
--- src/stores.rt:73:1
 returns : tie.Need-returns
 returns c = action-cleared _ (c .before .before .pre .0) (sideOf (c .before .before .args .client)) _ _ (c .before .before .pre .1) (c .slot .ensures .0)
 

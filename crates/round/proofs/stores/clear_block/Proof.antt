@@ -1,29 +1,22 @@
+-- `round::stores::clear_block` meets its contract. Assumes nothing.
 use Rattle.round.proofs.HeaderWords.{block-cleared}
 use Rattle.event.specs.HandedIn.{sideOf}
 use borrow.Author.Needs.{needs}
 use Rattle.round.proofs.stores.clear_block.Statement.{statement}
 use Rattle.round.proofs.stores.clear_block.Tie as tie
-use Rattle.round.proofs.stores.clear_block.Reads as reads
-use Rattle.round.proofs.stores.clear_block.Lts as lts
-use Rattle.queue.proofs.header.place.Reads as place-reads
 
--- src/stores.rt:30:9
 place-requires : tie.Need-place-requires
 place-requires c κs = search needs
 
--- src/stores.rt:31:5
 mul-block : tie.Need-mul-block
 mul-block c = search needs
 
--- src/stores.rt:31:5
 slice-write-block : tie.Need-slice-write-block
 slice-write-block c = search needs
 
--- src/stores.rt:26:1
 same-length : tie.Need-same-length
 same-length c = search needs
 
--- src/stores.rt:26:1
 returns : tie.Need-returns
 returns c = block-cleared _ (c .before .before .pre) (sideOf (c .before .before .args .client)) _ (c .place .ensures .0)
 

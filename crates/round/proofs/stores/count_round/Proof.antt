@@ -1,28 +1,22 @@
+-- `round::stores::count_round` meets its contract. Assumes nothing.
 use Rattle.round.proofs.HeaderWords.{rounds-raised, rounds-word}
 use native.Mathlib.Omega.{arith}
 use borrow.Author.Needs.{needs}
 use Rattle.round.proofs.stores.count_round.Statement.{statement}
 use Rattle.round.proofs.stores.count_round.Tie as tie
-use Rattle.round.proofs.stores.count_round.Reads as reads
-use Rattle.round.proofs.stores.count_round.Lts as lts
 
--- src/stores.rt:96:17
 slice-read-block : tie.Need-slice-read-block
 slice-read-block c = search needs
 
--- src/stores.rt:96:17
 add-block : tie.Need-add-block
 add-block c = record { fits = omega (arith, rounds-word (c .before .args .block .now), c .before .pre .1) }
 
--- src/stores.rt:96:5
 slice-write-block : tie.Need-slice-write-block
 slice-write-block c = search needs
 
--- src/stores.rt:92:1
 same-length : tie.Need-same-length
 same-length c = search needs
 
--- src/stores.rt:92:1
 returns : tie.Need-returns
 returns c = rounds-raised _ (c .before .pre .0)
 

@@ -1,15 +1,12 @@
+-- `round::stores::network_delay` meets its contract. Assumes nothing.
 use Rattle.round.proofs.HeaderWords.{network-word}
 use borrow.Author.Needs.{needs}
 use Rattle.round.proofs.stores.network_delay.Statement.{statement}
 use Rattle.round.proofs.stores.network_delay.Tie as tie
-use Rattle.round.proofs.stores.network_delay.Reads as reads
-use Rattle.round.proofs.stores.network_delay.Lts as lts
 
--- src/stores.rt:120:12
 shared-slice-read-t3 : tie.Need-shared-slice-read-t3
 shared-slice-read-t3 c = search needs
 
--- src/stores.rt:116:1
 returns : tie.Need-returns
 returns c = network-word (c .before .args .block .now)
 

@@ -1,41 +1,31 @@
+-- `round::stores::raise_sum` meets its contract. Assumes nothing.
 use Rattle.round.proofs.HeaderWords.{sum-fits, sum-raised}
 use Rattle.event.specs.HandedIn.{sideOf}
 use borrow.Author.Needs.{needs}
 use Rattle.round.proofs.stores.raise_sum.Statement.{statement}
 use Rattle.round.proofs.stores.raise_sum.Tie as tie
-use Rattle.round.proofs.stores.raise_sum.Reads as reads
-use Rattle.round.proofs.stores.raise_sum.Lts as lts
-use Rattle.queue.proofs.header.place.Reads as place-reads
 
--- src/stores.rt:21:9
 place-requires : tie.Need-place-requires
 place-requires c κs = search needs
 
--- src/stores.rt:22:17
 mul-block : tie.Need-mul-block
 mul-block c = search needs
 
--- src/stores.rt:22:17
 slice-read-block : tie.Need-slice-read-block
 slice-read-block c = search needs
 
--- src/stores.rt:22:17
 add-block : tie.Need-add-block
 add-block c = record { fits = sum-fits _ (c .before .before .before .before .pre .0) (sideOf (c .before .before .before .before .args .client)) _ _ (c .before .before .place .ensures .0) (c .before .before .before .before .pre .1) }
 
--- src/stores.rt:22:5
 mul-block-2 : tie.Need-mul-block-2
 mul-block-2 c = search needs
 
--- src/stores.rt:22:5
 slice-write-block : tie.Need-slice-write-block
 slice-write-block c = search needs
 
--- src/stores.rt:17:1
 same-length : tie.Need-same-length
 same-length c = search needs
 
--- src/stores.rt:17:1
 returns : tie.Need-returns
 returns c = sum-raised _ (c .before .before .before .before .pre .0) (sideOf (c .before .before .before .before .args .client)) _ _ (c .before .before .place .ensures .0)
 

@@ -1,3 +1,4 @@
+-- `round::stores::set_block` meets its contract. Assumes nothing.
 use Rattle.round.proofs.HeaderWords.{block-set}
 use Rattle.event.specs.HandedIn.{sideOf}
 use lib.ListN.{length-set}
@@ -5,48 +6,34 @@ use native.Mathlib.Omega.{arith}
 use borrow.Author.Needs.{needs}
 use Rattle.round.proofs.stores.set_block.Statement.{statement}
 use Rattle.round.proofs.stores.set_block.Tie as tie
-use Rattle.round.proofs.stores.set_block.Reads as reads
-use Rattle.round.proofs.stores.set_block.Lts as lts
-use Rattle.queue.proofs.header.place.Reads as place-reads
-use Rattle.round.proofs.stores.bit.Reads as bit-reads
 
--- src/stores.rt:48:9
 place-requires : tie.Need-place-requires
 place-requires c κs = search needs
 
--- src/stores.rt:49:9
 place-requires-2 : tie.Need-place-requires-2
 place-requires-2 c κs = search needs
 
--- src/stores.rt:50:17
 add-block : tie.Need-add-block
 add-block c = search needs
 
--- src/stores.rt:50:5
 mul-block : tie.Need-mul-block
 mul-block c = search needs
 
--- src/stores.rt:50:5
 slice-write-block : tie.Need-slice-write-block
 slice-write-block c = search needs
 
--- src/stores.rt:51:19
 bit-requires : tie.Need-bit-requires
 bit-requires c κs = search needs
 
--- src/stores.rt:51:5
 mul-block-2 : tie.Need-mul-block-2
 mul-block-2 c = search needs
 
--- src/stores.rt:51:5
 slice-write-block-2 : tie.Need-slice-write-block-2
 slice-write-block-2 c = simp length-set (omega (arith, c .before .before .before .before .before .pre .0 .size .least, c .before .before .place2 .ensures .1))
 
--- src/stores.rt:44:1
 same-length : tie.Need-same-length
 same-length c = search needs
 
--- src/stores.rt:44:1
 returns : tie.Need-returns
 returns c = block-set _ (c .before .before .before .before .before .pre .0) (sideOf (c .before .before .before .before .before .args .client)) _ _ _ _ _ (c .before .before .before .place .ensures .0) (c .before .before .place2 .ensures .0) (c .bit .ensures)
 

@@ -1,20 +1,16 @@
+-- `round::stores::slot` meets its contract. Assumes nothing.
 use Rattle.queue.proofs.Sides.{side-client, side-server}
 use native.Mathlib.Omega.{arith}
 use borrow.Author.Needs.{needs}
 use Rattle.round.proofs.stores.slot.Statement.{statement}
 use Rattle.round.proofs.stores.slot.Tie as tie
-use Rattle.round.proofs.stores.slot.Reads as reads
-use Rattle.round.proofs.stores.slot.Lts as lts
 
--- src/stores.rt:60:9
 returns : tie.Need-returns
 returns c = let z = side-client _ (c .if1 .taken) in (omega (arith, z), omega (arith, c .before .pre))
 
--- src/stores.rt:62:5
 add-result : tie.Need-add-result
 add-result c = search needs
 
--- src/stores.rt:55:1
 returns-2 : tie.Need-returns-2
 returns-2 c = let z = side-server _ (c .if1 .left) in (omega (arith, z), omega (arith, c .before .pre))
 

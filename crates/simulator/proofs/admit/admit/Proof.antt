@@ -1,38 +1,28 @@
+-- `simulator::admit::admit` meets its contract. Assumes nothing.
 use native.Mathlib.Omega.{arith}
 use borrow.Author.Needs.{needs}
 use Rattle.simulator.proofs.Admitting.{admit-1, admit-2, admit-3, admit-0, admit-long}
 use Rattle.simulator.proofs.admit.admit.Statement.{statement}
 use Rattle.simulator.proofs.admit.admit.Tie as tie
-use Rattle.simulator.proofs.admit.admit.Reads as reads
-use Rattle.simulator.proofs.admit.admit.Lts as lts
-use Rattle.accept.proofs.accepted.Reads as accepted-reads
-use Rattle.accept.proofs.size_ok.Reads as size-ok-reads
 
--- src/admit.rt:10:9
 size-ok-requires : tie.Need-size-ok-requires
 size-ok-requires c κs = search needs
 
--- src/admit.rt:11:9
 returns : tie.Need-returns
 returns c = search admit-1
 
--- src/admit.rt:13:9
 accepted-requires : tie.Need-accepted-requires
 accepted-requires c κs = search needs
 
--- src/admit.rt:14:9
 returns-2 : tie.Need-returns-2
 returns-2 c = search admit-2
 
--- src/admit.rt:16:8
 shared-slice-read-if3 : tie.Need-shared-slice-read-if3
 shared-slice-read-if3 c = omega (arith, admit-long (c .before .before .before .before .before .before .args .block .now) _ (c .before .before .before .before .size-ok .ensures) (c .before .before .before .if1 .left))
 
--- src/admit.rt:17:9
 returns-3 : tie.Need-returns-3
 returns-3 c = search admit-3
 
--- src/admit.rt:7:1
 returns-4 : tie.Need-returns-4
 returns-4 c = search admit-0
 

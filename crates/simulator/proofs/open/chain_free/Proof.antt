@@ -1,3 +1,4 @@
+-- `simulator::open::chain_free` meets its contract. Assumes nothing.
 use Rattle.simulator.specs.Openings.{Chained}
 use Prim.Native.Nat.{_-_}
 use native.Mathlib.Omega.{arith}
@@ -5,9 +6,6 @@ use borrow.Author.Needs.{needs}
 use Rattle.simulator.proofs.OpenWords.{chain-start, chain-turn, chain-end}
 use Rattle.simulator.proofs.open.chain_free.Statement.{statement}
 use Rattle.simulator.proofs.open.chain_free.Tie as tie
-use Rattle.simulator.proofs.open.chain_free.Reads as reads
-use Rattle.simulator.proofs.open.chain_free.Lts as lts
-use Rattle.queue_event.proofs.words.store.Reads as store-reads
 
 abbrev Inv-loop : tie.InvT-loop
 Inv-loop rest₀ count r₀ rest r = Chained rest₀ count rest r
@@ -15,35 +13,27 @@ Inv-loop rest₀ count r₀ rest r = Chained rest₀ count rest r
 abbrev μ-loop : tie.MeasureT-loop
 μ-loop rest₀ count r₀ rest r = count - r
 
--- src/open.rt:137:5
 loop-holds : tie.Need-loop-holds Inv-loop μ-loop
 loop-holds c = search chain-start
 
--- src/open.rt:138:34
 add-store : tie.Need-add-store Inv-loop μ-loop
 add-store c = search needs
 
--- src/open.rt:138:9
 store-requires : tie.Need-store-requires Inv-loop μ-loop
 store-requires c κs = search needs
 
--- src/open.rt:139:13
 add-r : tie.Need-add-r Inv-loop μ-loop
 add-r c = search needs
 
--- src/open.rt:137:5
 loop-less : tie.Need-loop-less Inv-loop μ-loop
 loop-less c = omega arith
 
--- src/open.rt:137:5
 loop-again : tie.Need-loop-again Inv-loop μ-loop
 loop-again c = search chain-turn
 
--- src/open.rt:132:1
 same-length : tie.Need-same-length Inv-loop μ-loop
 same-length c = search needs
 
--- src/open.rt:132:1
 returns : tie.Need-returns Inv-loop μ-loop
 returns c = chain-end (c .before .before .before .args .rest .now) (c .before .before .before .args .count) (c .before .loop .rest) (c .before .loop .r) (omega arith) (c .before .loop .inv)
 

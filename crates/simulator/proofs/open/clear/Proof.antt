@@ -1,3 +1,4 @@
+-- `simulator::open::clear` meets its contract. Assumes nothing.
 use Rattle.simulator.specs.Openings.{Cleared}
 use Prim.Native.Nat.{_-_}
 use mathlib.Core.Path.{refl}
@@ -8,8 +9,6 @@ use borrow.Author.Needs.{needs}
 use Rattle.simulator.proofs.OpenWords.{clear-turn, clear-end}
 use Rattle.simulator.proofs.open.clear.Statement.{statement}
 use Rattle.simulator.proofs.open.clear.Tie as tie
-use Rattle.simulator.proofs.open.clear.Reads as reads
-use Rattle.simulator.proofs.open.clear.Lts as lts
 
 abbrev Inv-loop : tie.InvT-loop
 Inv-loop block₀ i₀ block i = Cleared block₀ block i
@@ -17,35 +16,27 @@ Inv-loop block₀ i₀ block i = Cleared block₀ block i
 abbrev μ-loop : tie.MeasureT-loop
 μ-loop block₀ i₀ block i = length block - i
 
--- src/open.rt:107:5
 loop-holds : tie.Need-loop-holds Inv-loop μ-loop
 loop-holds c = (omega arith, (refl, below-none _))
 
--- src/open.rt:108:9
 mul-block : tie.Need-mul-block Inv-loop μ-loop
 mul-block c = search needs
 
--- src/open.rt:108:9
 slice-write-block : tie.Need-slice-write-block Inv-loop μ-loop
 slice-write-block c = search needs
 
--- src/open.rt:109:13
 add-i : tie.Need-add-i Inv-loop μ-loop
 add-i c = search needs
 
--- src/open.rt:107:5
 loop-less : tie.Need-loop-less Inv-loop μ-loop
 loop-less c = simp length-set (omega arith)
 
--- src/open.rt:107:5
 loop-again : tie.Need-loop-again Inv-loop μ-loop
 loop-again c = search clear-turn
 
--- src/open.rt:103:1
 same-length : tie.Need-same-length Inv-loop μ-loop
 same-length c = search needs
 
--- src/open.rt:103:1
 returns : tie.Need-returns Inv-loop μ-loop
 returns c = clear-end (c .before .before .args .block .now) (c .before .loop .block) (c .before .loop .i) (omega arith) (c .before .loop .inv)
 

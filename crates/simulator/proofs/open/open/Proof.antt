@@ -1,39 +1,28 @@
+-- `simulator::open::open` meets its contract. Assumes nothing.
 use borrow.Author.Needs.{needs}
 use Rattle.layout.proofs.Deciding.{passed}
 use Rattle.simulator.proofs.OpenNumbers.{opens-1, opens-4, opens-0}
 use Rattle.simulator.proofs.open.open.Statement.{statement}
 use Rattle.simulator.proofs.open.open.Tie as tie
-use Rattle.simulator.proofs.open.open.Reads as reads
-use Rattle.simulator.proofs.open.open.Lts as lts
-use Rattle.accept.proofs.size_ok.Reads as size-ok-reads
-use Rattle.simulator.proofs.open.fits.Reads as fits-reads
-use Rattle.simulator.proofs.open.write_state.Reads as write-state-reads
 
--- src/open.rt:160:9
 size-ok-requires : tie.Need-size-ok-requires
 size-ok-requires c κs = search needs
 
--- src/open.rt:161:9
 returns : tie.Need-returns
 returns c = search opens-1
 
--- src/open.rt:163:9
 fits-requires : tie.Need-fits-requires
 fits-requires c κs = search needs
 
--- src/open.rt:164:9
 returns-2 : tie.Need-returns-2
 returns-2 c = search opens-4
 
--- src/open.rt:166:5
 write-state-requires : tie.Need-write-state-requires
 write-state-requires c κs = passed (c .before .before .before .before .size-ok .ensures) (c .before .before .before .if1 .left)
 
--- src/open.rt:157:1
 same-length : tie.Need-same-length
 same-length c = search needs
 
--- src/open.rt:157:1
 returns-3 : tie.Need-returns-3
 returns-3 c = search opens-0
 

@@ -1,3 +1,4 @@
+-- `simulator::open::write_state` meets its contract. Assumes nothing.
 use Prim.Native.Nat.{_-_, _/_}
 use mathlib.Core.Path.{refl}
 use native.Mathlib.Omega.{arith}
@@ -7,53 +8,37 @@ use Rattle.simulator.specs.Openings.{openingOf}
 use Rattle.simulator.proofs.OpenWords.{settings-long, rest-ready, state-written, written-long}
 use Rattle.simulator.proofs.open.write_state.Statement.{statement}
 use Rattle.simulator.proofs.open.write_state.Tie as tie
-use Rattle.simulator.proofs.open.write_state.Reads as reads
-use Rattle.simulator.proofs.open.write_state.Lts as lts
-use Rattle.simulator.proofs.open.chain_free.Reads as chain-free-reads
-use Rattle.simulator.proofs.open.clear.Reads as clear-reads
-use Rattle.simulator.proofs.open.write_settings.Reads as write-settings-reads
 
--- src/open.rt:148:5
 clear-requires : tie.Need-clear-requires
 clear-requires c κs = search needs
 
--- src/open.rt:149:5
 write-settings-requires : tie.Need-write-settings-requires
 write-settings-requires c κs = search needs
 
--- src/open.rt:150:19
 sub-count : tie.Need-sub-count
 sub-count c = search needs
 
--- src/open.rt:151:5
 slice-write-block : tie.Need-slice-write-block
 slice-write-block c = search needs
 
--- src/open.rt:152:5
 slice-write-block-2 : tie.Need-slice-write-block-2
 slice-write-block-2 c = simp length-set (omega (arith, settings-long (c .before .before .before .before .before .before .before .before .before .args .block .now) (c .before .before .before .before .before .before .clear .last .0) (c .before .before .write-settings .last .0) (openingOf (c .before .before .before .before .before .before .before .before .before .args .o)) (c .before .before .before .before .before .before .before .before .before .pre) (c .before .before .before .before .before .before .clear .ensures) (c .before .before .write-settings .ensures) ((length (c .before .before .write-settings .last .0) - 256) / 4) refl, c .before .before .before .before .before .before .before .before .before .pre .least))
 
--- src/open.rt:153:16
 sub-chain-free : tie.Need-sub-chain-free
 sub-chain-free c = simp length-set (omega (arith, settings-long (c .before .before .before .before .before .before .before .before .before .args .block .now) (c .before .before .before .before .before .before .clear .last .0) (c .before .before .write-settings .last .0) (openingOf (c .before .before .before .before .before .before .before .before .before .args .o)) (c .before .before .before .before .before .before .before .before .before .pre) (c .before .before .before .before .before .before .clear .ensures) (c .before .before .write-settings .ensures) ((length (c .before .before .write-settings .last .0) - 256) / 4) refl, c .before .before .before .before .before .before .before .before .before .pre .least))
 
--- src/open.rt:153:16
 part-chain-free-start : tie.Need-part-chain-free-start
 part-chain-free-start c = simp length-set (omega (arith, settings-long (c .before .before .before .before .before .before .before .before .before .args .block .now) (c .before .before .before .before .before .before .clear .last .0) (c .before .before .write-settings .last .0) (openingOf (c .before .before .before .before .before .before .before .before .before .args .o)) (c .before .before .before .before .before .before .before .before .before .pre) (c .before .before .before .before .before .before .clear .ensures) (c .before .before .write-settings .ensures) ((length (c .before .before .write-settings .last .0) - 256) / 4) refl, c .before .before .before .before .before .before .before .before .before .pre .least))
 
--- src/open.rt:153:16
 part-chain-free-end : tie.Need-part-chain-free-end
 part-chain-free-end c = search needs
 
--- src/open.rt:153:5
 chain-free-requires : tie.Need-chain-free-requires
 chain-free-requires c κs = rest-ready (c .before .before .before .before .before .before .before .before .before .before .args .block .now) (c .before .before .before .before .before .before .before .clear .last .0) (c .before .before .before .write-settings .last .0) (openingOf (c .before .before .before .before .before .before .before .before .before .before .args .o)) (c .before .before .before .before .before .before .before .before .before .before .pre) (c .before .before .before .before .before .before .before .clear .ensures) (c .before .before .before .write-settings .ensures) ((length (c .before .before .before .write-settings .last .0) - 256) / 4) refl
 
--- src/open.rt:144:1
 same-length : tie.Need-same-length
 same-length c = written-long (c .before .before .before .before .before .before .before .before .before .before .before .before .before .args .block .now) (c .before .before .before .before .before .before .before .before .before .before .clear .last .0) (c .before .before .before .before .before .before .write-settings .last .0) (openingOf (c .before .before .before .before .before .before .before .before .before .before .before .before .before .args .o)) (c .before .before .before .before .before .before .before .before .before .before .before .before .before .pre) (c .before .before .before .before .before .before .before .before .before .before .clear .ensures) (c .before .before .before .before .before .before .write-settings .ensures) ((length (c .before .before .before .before .before .before .write-settings .last .0) - 256) / 4) refl (c .before .before .chain-free .last .0) (c .before .before .chain-free .ensures .0)
 
--- src/open.rt:144:1
 returns : tie.Need-returns
 returns c = state-written (c .before .before .before .before .before .before .before .before .before .before .before .before .before .args .block .now) (c .before .before .before .before .before .before .before .before .before .before .clear .last .0) (c .before .before .before .before .before .before .write-settings .last .0) (openingOf (c .before .before .before .before .before .before .before .before .before .before .before .before .before .args .o)) (c .before .before .before .before .before .before .before .before .before .before .before .before .before .pre) (c .before .before .before .before .before .before .before .before .before .before .clear .ensures) (c .before .before .before .before .before .before .write-settings .ensures) ((length (c .before .before .before .before .before .before .write-settings .last .0) - 256) / 4) refl (c .before .before .chain-free .last .0) (c .before .before .chain-free .ensures)
 

@@ -1,20 +1,15 @@
+-- `simulator::push::kept` meets its contract. Assumes nothing.
 use borrow.Author.Needs.{needs}
 use Rattle.simulator.proofs.PushOutcomes.{kept-same, kept-zero}
 use Rattle.simulator.proofs.push.kept.Statement.{statement}
 use Rattle.simulator.proofs.push.kept.Tie as tie
-use Rattle.simulator.proofs.push.kept.Reads as reads
-use Rattle.simulator.proofs.push.kept.Lts as lts
-use Rattle.event.proofs.Kind.has_machine.Reads as has-machine-reads
 
--- src/push.rt:78:8
 has-machine-requires : tie.Need-has-machine-requires
 has-machine-requires c κs = search needs
 
--- src/push.rt:79:9
 returns : tie.Need-returns
 returns c = kept-same (c .before .before .args .e) _ (c .before .has-machine .ensures) (c .if1 .taken)
 
--- src/push.rt:75:1
 returns-2 : tie.Need-returns-2
 returns-2 c = kept-zero (c .before .before .before .before .before .args .e) _ (c .before .before .before .before .has-machine .ensures) (c .before .before .before .if1 .left)
 

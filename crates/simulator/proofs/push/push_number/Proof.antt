@@ -1,37 +1,27 @@
+-- `simulator::push::push_number` meets its contract. Assumes nothing.
 use Rattle.simulator.proofs.EventNumbers.{push-n, push-9, push-0}
 use borrow.Author.Needs.{needs}
 use Rattle.simulator.proofs.push.push_number.Statement.{statement}
 use Rattle.simulator.proofs.push.push_number.Tie as tie
-use Rattle.simulator.proofs.push.push_number.Reads as reads
-use Rattle.simulator.proofs.push.push_number.Lts as lts
-use Rattle.accept.proofs.header.reserved.Reads as reserved-reads
-use Rattle.simulator.proofs.push.event_number.Reads as event-number-reads
 
--- src/push.rt:56:9
 event-number-requires : tie.Need-event-number-requires
 event-number-requires c κs = search needs
 
--- src/push.rt:58:9
 returns : tie.Need-returns
 returns c = search push-n
 
--- src/push.rt:60:8
 shared-slice-read-if2 : tie.Need-shared-slice-read-if2
 shared-slice-read-if2 c = search needs
 
--- src/push.rt:60:19
 reserved-requires : tie.Need-reserved-requires
 reserved-requires c κs = search needs
 
--- src/push.rt:60:19
 add-if2 : tie.Need-add-if2
 add-if2 c = search needs
 
--- src/push.rt:61:9
 returns-2 : tie.Need-returns-2
 returns-2 c = search push-9
 
--- src/push.rt:52:1
 returns-3 : tie.Need-returns-3
 returns-3 c = search push-0
 

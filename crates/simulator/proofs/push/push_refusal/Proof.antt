@@ -1,3 +1,4 @@
+-- `simulator::push::push_refusal` meets its contract. Assumes nothing.
 use native.Mathlib.Omega.{arith}
 use borrow.Author.Needs.{needs}
 use Rattle.event.specs.HandedIn.{eventIn}
@@ -5,36 +6,25 @@ use Rattle.rules.specs.Arguments.{push}
 use Rattle.simulator.proofs.Admitting.{admit-n, admitted-long, admitted-wide, admitted-going, admitted-number}
 use Rattle.simulator.proofs.push.push_refusal.Statement.{statement}
 use Rattle.simulator.proofs.push.push_refusal.Tie as tie
-use Rattle.simulator.proofs.push.push_refusal.Reads as reads
-use Rattle.simulator.proofs.push.push_refusal.Lts as lts
-use Rattle.simulator.proofs.admit.admit.Reads as admit-reads
-use Rattle.simulator.proofs.push.push_number.Reads as push-number-reads
 
--- src/push.rt:61:9
 admit-requires : tie.Need-admit-requires
 admit-requires c κs = search needs
 
--- src/push.rt:63:9
 returns : tie.Need-returns
 returns c = search admit-n
 
--- src/push.rt:65:17
 sub-push-number : tie.Need-sub-push-number
 sub-push-number c = search needs
 
--- src/push.rt:65:17
 part-push-number-start : tie.Need-part-push-number-start
 part-push-number-start c = search needs
 
--- src/push.rt:65:17
 part-push-number-end : tie.Need-part-push-number-end
 part-push-number-end c = omega (arith, admitted-long (c .before .before .before .args .block .now) _ (c .before .admit .ensures) (c .if1 .left))
 
--- src/push.rt:65:5
 push-number-requires : tie.Need-push-number-requires
 push-number-requires c κs = (admitted-wide (c .before .before .before .before .args .block .now) _ (c .before .before .admit .ensures) (c .before .if1 .left), admitted-going (c .before .before .before .before .args .block .now) _ (c .before .before .admit .ensures) (c .before .if1 .left))
 
--- src/push.rt:58:1
 returns-2 : tie.Need-returns-2
 returns-2 c = admitted-number (c .before .before .before .before .before .args .block .now) _ (c .before .before .before .admit .ensures) (c .before .before .if1 .left) (push (eventIn (c .before .before .before .before .before .args .e))) _ (c .push-number .ensures)
 

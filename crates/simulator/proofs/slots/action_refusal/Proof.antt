@@ -1,3 +1,4 @@
+-- `simulator::slots::action_refusal` meets its contract. Assumes nothing.
 use native.Mathlib.Omega.{arith}
 use borrow.Author.Needs.{needs}
 use Rattle.event.specs.HandedIn.{actionIn}
@@ -6,36 +7,25 @@ use Rattle.simulator.specs.Numbers.{slotIn}
 use Rattle.simulator.proofs.Admitting.{admit-n, admitted-long, admitted-wide, admitted-going, admitted-limits, admitted-number}
 use Rattle.simulator.proofs.slots.action_refusal.Statement.{statement}
 use Rattle.simulator.proofs.slots.action_refusal.Tie as tie
-use Rattle.simulator.proofs.slots.action_refusal.Reads as reads
-use Rattle.simulator.proofs.slots.action_refusal.Lts as lts
-use Rattle.simulator.proofs.admit.admit.Reads as admit-reads
-use Rattle.simulator.proofs.slots.action_number.Reads as action-number-reads
 
--- src/slots.rt:118:9
 admit-requires : tie.Need-admit-requires
 admit-requires c κs = search needs
 
--- src/slots.rt:120:9
 returns : tie.Need-returns
 returns c = search admit-n
 
--- src/slots.rt:122:19
 sub-action-number : tie.Need-sub-action-number
 sub-action-number c = search needs
 
--- src/slots.rt:122:19
 part-action-number-start : tie.Need-part-action-number-start
 part-action-number-start c = search needs
 
--- src/slots.rt:122:19
 part-action-number-end : tie.Need-part-action-number-end
 part-action-number-end c = omega (arith, admitted-long (c .before .before .before .args .block .now) _ (c .before .admit .ensures) (c .if1 .left))
 
--- src/slots.rt:122:5
 action-number-requires : tie.Need-action-number-requires
 action-number-requires c κs = (admitted-wide (c .before .before .before .before .args .block .now) _ (c .before .before .admit .ensures) (c .before .if1 .left), (admitted-limits (c .before .before .before .before .args .block .now) _ (c .before .before .admit .ensures) (c .before .if1 .left), admitted-going (c .before .before .before .before .args .block .now) _ (c .before .before .admit .ensures) (c .before .if1 .left)))
 
--- src/slots.rt:115:1
 returns-2 : tie.Need-returns-2
 returns-2 c = admitted-number (c .before .before .before .before .before .args .block .now) _ (c .before .before .before .admit .ensures) (c .before .before .if1 .left) (set-action (slotIn (c .before .before .before .before .before .args .client) (c .before .before .before .before .before .args .machine)) (actionIn (c .before .before .before .before .before .args .a))) _ (c .action-number .ensures)
 

@@ -1,39 +1,28 @@
+-- `simulator::slots::clear_action` meets its contract. Assumes nothing.
 use borrow.Author.Needs.{needs}
 use Rattle.simulator.proofs.Working.{outcome-n}
 use Rattle.simulator.proofs.ActionOutcomes.{emptied-small, emptied-long, emptied-done}
 use Rattle.simulator.proofs.slots.clear_action.Statement.{statement}
 use Rattle.simulator.proofs.slots.clear_action.Tie as tie
-use Rattle.simulator.proofs.slots.clear_action.Reads as reads
-use Rattle.simulator.proofs.slots.clear_action.Lts as lts
-use Rattle.simulator.proofs.slots.clear_refusal.Reads as clear-refusal-reads
-use Rattle.simulator.proofs.slots.slot.Reads as slot-reads
-use Rattle.simulator.proofs.slots.store_action.Reads as store-action-reads
 
--- src/slots.rt:212:9
 clear-refusal-requires : tie.Need-clear-refusal-requires
 clear-refusal-requires c κs = search needs
 
--- src/slots.rt:214:9
 same-length : tie.Need-same-length
 same-length c = search needs
 
--- src/slots.rt:214:9
 returns : tie.Need-returns
 returns c = outcome-n _ _ _ (c .before .clear-refusal .ensures .1) (c .if1 .taken)
 
--- src/slots.rt:216:9
 slot-requires : tie.Need-slot-requires
 slot-requires c κs = emptied-small (c .before .before .before .before .args .block .now) (c .before .before .before .before .args .client) (c .before .before .before .before .args .machine) _ (c .before .clear-refusal .ensures .1) (c .if1 .left)
 
--- src/slots.rt:217:5
 store-action-requires : tie.Need-store-action-requires
 store-action-requires c κs = (emptied-long (c .before .before .before .before .before .before .args .block .now) (c .before .before .before .before .before .before .args .client) (c .before .before .before .before .before .before .args .machine) _ (c .before .before .before .clear-refusal .ensures .1) (c .before .before .if1 .left), c .before .slot .ensures .1)
 
--- src/slots.rt:209:1
 same-length-2 : tie.Need-same-length-2
 same-length-2 c = search needs
 
--- src/slots.rt:209:1
 returns-2 : tie.Need-returns-2
 returns-2 c = emptied-done (c .before .before .before .before .before .before .before .before .before .args .block .now) (c .before .before .before .before .before .before .before .before .before .args .client) (c .before .before .before .before .before .before .before .before .before .args .machine) _ (c .before .before .before .before .before .before .clear-refusal .ensures .1) (c .before .before .before .before .before .if1 .left) _ (c .before .before .before .before .slot .ensures) _ (c .before .before .store-action .ensures)
 

@@ -1,3 +1,4 @@
+-- `simulator::slots::clear_refusal` meets its contract. Assumes nothing.
 use native.Mathlib.Omega.{arith}
 use lib.ListN.{take}
 use borrow.Author.Needs.{needs}
@@ -7,36 +8,25 @@ use Rattle.simulator.proofs.Admitting.{admit-n, admitted-long, admitted
 use Rattle.simulator.proofs.SlotNumbers.{clear-numbers}
 use Rattle.simulator.proofs.slots.clear_refusal.Statement.{statement}
 use Rattle.simulator.proofs.slots.clear_refusal.Tie as tie
-use Rattle.simulator.proofs.slots.clear_refusal.Reads as reads
-use Rattle.simulator.proofs.slots.clear_refusal.Lts as lts
-use Rattle.simulator.proofs.admit.admit.Reads as admit-reads
-use Rattle.simulator.proofs.slots.slot_number.Reads as slot-number-reads
 
--- src/slots.rt:130:9
 admit-requires : tie.Need-admit-requires
 admit-requires c κs = search needs
 
--- src/slots.rt:132:9
 returns : tie.Need-returns
 returns c = (search admit-n, search admit-n)
 
--- src/slots.rt:134:17
 sub-slot-number : tie.Need-sub-slot-number
 sub-slot-number c = search needs
 
--- src/slots.rt:134:17
 part-slot-number-start : tie.Need-part-slot-number-start
 part-slot-number-start c = search needs
 
--- src/slots.rt:134:17
 part-slot-number-end : tie.Need-part-slot-number-end
 part-slot-number-end c = omega (arith, admitted-long (c .before .before .before .args .block .now) _ (c .before .admit .ensures) (c .if1 .left))
 
--- src/slots.rt:134:5
 slot-number-requires : tie.Need-slot-number-requires
 slot-number-requires c κs = admitted-wide (c .before .before .before .before .args .block .now) _ (c .before .before .admit .ensures) (c .before .if1 .left)
 
--- src/slots.rt:126:1
 returns-2 : tie.Need-returns-2
 returns-2 c = let both = clear-numbers (take 256 (c .before .before .before .before .before .args .block .now)) (c .before .before .before .before .before .args .client) (c .before .before .before .before .before .args .machine) (admitted-going (c .before .before .before .before .before .args .block .now) _ (c .before .before .before .admit .ensures) (c .before .before .if1 .left)) _ (c .slot-number .ensures) in (admitted-number (c .before .before .before .before .before .args .block .now) _ (c .before .before .before .admit .ensures) (c .before .before .if1 .left) (clear-timer (slotIn (c .before .before .before .before .before .args .client) (c .before .before .before .before .before .args .machine))) _ (both .0), admitted-number (c .before .before .before .before .before .args .block .now) _ (c .before .before .before .admit .ensures) (c .before .before .if1 .left) (clear-action (slotIn (c .before .before .before .before .before .args .client) (c .before .before .before .before .before .args .machine))) _ (both .1))
 

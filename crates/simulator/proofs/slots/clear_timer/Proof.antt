@@ -1,47 +1,35 @@
+-- `simulator::slots::clear_timer` meets its contract. Assumes nothing.
 use native.Mathlib.Omega.{arith}
 use borrow.Author.Needs.{needs}
 use Rattle.simulator.proofs.Working.{outcome-n}
 use Rattle.simulator.proofs.SlotOutcomes.{clear-small, clear-long, clear-done}
 use Rattle.simulator.proofs.slots.clear_timer.Statement.{statement}
 use Rattle.simulator.proofs.slots.clear_timer.Tie as tie
-use Rattle.simulator.proofs.slots.clear_timer.Reads as reads
-use Rattle.simulator.proofs.slots.clear_timer.Lts as lts
-use Rattle.simulator.proofs.slots.clear_refusal.Reads as clear-refusal-reads
-use Rattle.simulator.proofs.slots.slot.Reads as slot-reads
 
--- src/slots.rt:160:9
 clear-refusal-requires : tie.Need-clear-refusal-requires
 clear-refusal-requires c κs = search needs
 
--- src/slots.rt:162:9
 same-length : tie.Need-same-length
 same-length c = search needs
 
--- src/slots.rt:162:9
 returns : tie.Need-returns
 returns c = outcome-n _ _ _ (c .before .clear-refusal .ensures .0) (c .if1 .taken)
 
--- src/slots.rt:164:9
 slot-requires : tie.Need-slot-requires
 slot-requires c κs = clear-small (c .before .before .before .before .args .block .now) (c .before .before .before .before .args .client) (c .before .before .before .before .args .machine) _ (c .before .clear-refusal .ensures .0) (c .if1 .left)
 
--- src/slots.rt:165:11
 add-block : tie.Need-add-block
 add-block c = search needs
 
--- src/slots.rt:165:5
 mul-block : tie.Need-mul-block
 mul-block c = search needs
 
--- src/slots.rt:165:5
 slice-write-block : tie.Need-slice-write-block
 slice-write-block c = omega (arith, c .slot .ensures .1, clear-long (c .before .before .before .before .before .args .block .now) (c .before .before .before .before .before .args .client) (c .before .before .before .before .before .args .machine) _ (c .before .before .clear-refusal .ensures .0) (c .before .if1 .left))
 
--- src/slots.rt:157:1
 same-length-2 : tie.Need-same-length-2
 same-length-2 c = search needs
 
--- src/slots.rt:157:1
 returns-2 : tie.Need-returns-2
 returns-2 c = clear-done (c .before .before .before .before .before .args .block .now) (c .before .before .before .before .before .args .client) (c .before .before .before .before .before .args .machine) _ (c .before .before .clear-refusal .ensures .0) (c .before .if1 .left) _ (c .slot .ensures)
 

@@ -1,14 +1,11 @@
+-- `simulator::slots::kept_duration` meets its contract. Assumes nothing.
 use Rattle.simulator.proofs.SlotWords.{kept-block, kept-none}
 use Rattle.simulator.proofs.slots.kept_duration.Statement.{statement}
 use Rattle.simulator.proofs.slots.kept_duration.Tie as tie
-use Rattle.simulator.proofs.slots.kept_duration.Reads as reads
-use Rattle.simulator.proofs.slots.kept_duration.Lts as lts
 
--- src/slots.rt:74:9
 returns : tie.Need-returns
 returns c = search kept-block
 
--- src/slots.rt:70:1
 returns-2 : tie.Need-returns-2
 returns-2 c = search kept-none
 

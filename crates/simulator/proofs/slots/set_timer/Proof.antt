@@ -1,51 +1,38 @@
+-- `simulator::slots::set_timer` meets its contract. Assumes nothing.
 use native.Mathlib.Omega.{arith}
 use borrow.Author.Needs.{needs}
 use Rattle.simulator.proofs.Working.{outcome-n}
 use Rattle.simulator.proofs.SlotOutcomes.{timer-small, timer-fits, timer-long, timer-done}
 use Rattle.simulator.proofs.slots.set_timer.Statement.{statement}
 use Rattle.simulator.proofs.slots.set_timer.Tie as tie
-use Rattle.simulator.proofs.slots.set_timer.Reads as reads
-use Rattle.simulator.proofs.slots.set_timer.Lts as lts
-use Rattle.simulator.proofs.slots.slot.Reads as slot-reads
-use Rattle.simulator.proofs.slots.timer_refusal.Reads as timer-refusal-reads
 
--- src/slots.rt:145:9
 timer-refusal-requires : tie.Need-timer-refusal-requires
 timer-refusal-requires c κs = search needs
 
--- src/slots.rt:147:9
 same-length : tie.Need-same-length
 same-length c = search needs
 
--- src/slots.rt:147:9
 returns : tie.Need-returns
 returns c = search outcome-n
 
--- src/slots.rt:149:9
 slot-requires : tie.Need-slot-requires
 slot-requires c κs = timer-small (c .before .before .before .before .args .block .now) (c .before .before .before .before .args .client) (c .before .before .before .before .args .machine) (c .before .before .before .before .args .moment .0) _ (c .before .timer-refusal .ensures) (c .if1 .left)
 
--- src/slots.rt:150:21
 add-block : tie.Need-add-block
 add-block c = timer-fits (c .before .before .before .before .before .before .args .block .now) (c .before .before .before .before .before .before .args .client) (c .before .before .before .before .before .before .args .machine) (c .before .before .before .before .before .before .args .moment .0) _ (c .before .before .before .timer-refusal .ensures) (c .before .before .if1 .left)
 
--- src/slots.rt:150:11
 add-block-2 : tie.Need-add-block-2
 add-block-2 c = search needs
 
--- src/slots.rt:150:5
 mul-block : tie.Need-mul-block
 mul-block c = search needs
 
--- src/slots.rt:150:5
 slice-write-block : tie.Need-slice-write-block
 slice-write-block c = omega (arith, c .before .slot .ensures .1, timer-long (c .before .before .before .before .before .before .args .block .now) (c .before .before .before .before .before .before .args .client) (c .before .before .before .before .before .before .args .machine) (c .before .before .before .before .before .before .args .moment .0) _ (c .before .before .before .timer-refusal .ensures) (c .before .before .if1 .left))
 
--- src/slots.rt:142:1
 same-length-2 : tie.Need-same-length-2
 same-length-2 c = search needs
 
--- src/slots.rt:142:1
 returns-2 : tie.Need-returns-2
 returns-2 c = timer-done (c .before .before .before .before .before .before .args .block .now) (c .before .before .before .before .before .before .args .client) (c .before .before .before .before .before .before .args .machine) (c .before .before .before .before .before .before .args .moment .0) _ (c .before .before .before .timer-refusal .ensures) (c .before .before .if1 .left) _ (c .before .slot .ensures)
 

@@ -1,20 +1,15 @@
+-- `simulator::slots::slot_number` meets its contract. Assumes nothing.
 use borrow.Author.Needs.{needs}
 use Rattle.simulator.proofs.SlotNumbers.{slot-5, slot-0}
 use Rattle.simulator.proofs.slots.slot_number.Statement.{statement}
 use Rattle.simulator.proofs.slots.slot_number.Tie as tie
-use Rattle.simulator.proofs.slots.slot_number.Reads as reads
-use Rattle.simulator.proofs.slots.slot_number.Lts as lts
-use Rattle.queue.proofs.header.of_side.Reads as of-side-reads
 
--- src/slots.rt:33:8
 of-side-requires : tie.Need-of-side-requires
 of-side-requires c κs = search needs
 
--- src/slots.rt:34:9
 returns : tie.Need-returns
 returns c = slot-5 (c .before .before .before .args .head .now) (c .before .before .before .args .client) (c .before .before .before .args .machine) _ (c .before .of-side .ensures) (c .if1 .taken)
 
--- src/slots.rt:29:1
 returns-2 : tie.Need-returns-2
 returns-2 c = slot-0 (c .before .before .before .args .head .now) (c .before .before .before .args .client) (c .before .before .before .args .machine) _ (c .before .of-side .ensures) (c .if1 .left)
 

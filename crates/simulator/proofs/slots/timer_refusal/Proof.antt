@@ -1,3 +1,4 @@
+-- `simulator::slots::timer_refusal` meets its contract. Assumes nothing.
 use native.Mathlib.Omega.{arith}
 use borrow.Author.Needs.{needs}
 use Rattle.rules.specs.Arguments.{set-timer}
@@ -5,36 +6,25 @@ use Rattle.simulator.specs.Numbers.{slotIn}
 use Rattle.simulator.proofs.Admitting.{admit-n, admitted-long, admitted-wide, admitted-going, admitted-limits, admitted-number}
 use Rattle.simulator.proofs.slots.timer_refusal.Statement.{statement}
 use Rattle.simulator.proofs.slots.timer_refusal.Tie as tie
-use Rattle.simulator.proofs.slots.timer_refusal.Reads as reads
-use Rattle.simulator.proofs.slots.timer_refusal.Lts as lts
-use Rattle.simulator.proofs.admit.admit.Reads as admit-reads
-use Rattle.simulator.proofs.slots.timer_number.Reads as timer-number-reads
 
--- src/slots.rt:108:9
 admit-requires : tie.Need-admit-requires
 admit-requires c κs = search needs
 
--- src/slots.rt:110:9
 returns : tie.Need-returns
 returns c = search admit-n
 
--- src/slots.rt:112:18
 sub-timer-number : tie.Need-sub-timer-number
 sub-timer-number c = search needs
 
--- src/slots.rt:112:18
 part-timer-number-start : tie.Need-part-timer-number-start
 part-timer-number-start c = search needs
 
--- src/slots.rt:112:18
 part-timer-number-end : tie.Need-part-timer-number-end
 part-timer-number-end c = omega (arith, admitted-long (c .before .before .before .args .block .now) _ (c .before .admit .ensures) (c .if1 .left))
 
--- src/slots.rt:112:5
 timer-number-requires : tie.Need-timer-number-requires
 timer-number-requires c κs = (admitted-wide (c .before .before .before .before .args .block .now) _ (c .before .before .admit .ensures) (c .before .if1 .left), (admitted-limits (c .before .before .before .before .args .block .now) _ (c .before .before .admit .ensures) (c .before .if1 .left), admitted-going (c .before .before .before .before .args .block .now) _ (c .before .before .admit .ensures) (c .before .if1 .left)))
 
--- src/slots.rt:105:1
 returns-2 : tie.Need-returns-2
 returns-2 c = admitted-number (c .before .before .before .before .before .args .block .now) _ (c .before .before .before .admit .ensures) (c .before .before .if1 .left) (set-timer (slotIn (c .before .before .before .before .before .args .client) (c .before .before .before .before .before .args .machine)) (c .before .before .before .before .before .args .moment .0)) _ (c .timer-number .ensures)
 

@@ -1,10 +1,8 @@
+-- `queue_peek::five::Delays::none` meets its contract. Assumes nothing.
 use Rattle.queue_peek.proofs.FiveLaws.{none-filled}
 use Rattle.queue_peek.proofs.five.Delays.none.Statement.{statement}
 use Rattle.queue_peek.proofs.five.Delays.none.Tie as tie
-use Rattle.queue_peek.proofs.five.Delays.none.Reads as reads
-use Rattle.queue_peek.proofs.five.Delays.none.Lts as lts
 
--- src/five.rt:33:5
 returns : tie.Need-returns
 returns c = none-filled
 

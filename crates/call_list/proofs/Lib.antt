@@ -1,0 +1,3 @@
+pub mod LentLaws
+pub mod ReadingLaws
+pub mod WithinLaws

@@ -1,0 +1,66 @@
+-- `call_list::words::shaped` meets its contract. Assumes nothing.
+use Prim.Native.Nat.{_≤_, _-_}
+use borrow.Author.Needs.{needs}
+use Rattle.call_list.proofs.words.shaped.Statement.{statement}
+use Rattle.call_list.proofs.words.shaped.Tie as tie
+
+abbrev Inv-loop : tie.InvT-loop
+Inv-loop forms n shape i₀ i = i ≤ n
+
+abbrev μ-loop : tie.MeasureT-loop
+μ-loop forms n shape i₀ i = n - i
+
+returns : tie.Need-returns Inv-loop μ-loop
+returns c = search needs
+
+returns-2 : tie.Need-returns-2 Inv-loop μ-loop
+returns-2 c = search needs
+
+loop-holds : tie.Need-loop-holds Inv-loop μ-loop
+loop-holds c = search needs
+
+mul-stands : tie.Need-mul-stands Inv-loop μ-loop
+mul-stands c = search needs
+
+element-copy-out-stands : tie.Need-element-copy-out-stands Inv-loop μ-loop
+element-copy-out-stands c = search needs
+
+shared-slice-read-stands : tie.Need-shared-slice-read-stands Inv-loop μ-loop
+shared-slice-read-stands c = search needs
+
+stands-requires : tie.Need-stands-requires Inv-loop μ-loop
+stands-requires c κs = search needs
+
+returns-3 : tie.Need-returns-3 Inv-loop μ-loop
+returns-3 c = search needs
+
+add-i : tie.Need-add-i Inv-loop μ-loop
+add-i c = search needs
+
+loop-less : tie.Need-loop-less Inv-loop μ-loop
+loop-less c = search needs
+
+loop-again : tie.Need-loop-again Inv-loop μ-loop
+loop-again c = search needs
+
+returns-4 : tie.Need-returns-4 Inv-loop μ-loop
+returns-4 c = search needs
+
+pub shaped-spec : {M : Type 1} → statement M
+shaped-spec =
+    tie.close
+    (tie.spec
+    Inv-loop
+    μ-loop
+    returns
+    returns-2
+    loop-holds
+    mul-stands
+    element-copy-out-stands
+    shared-slice-read-stands
+    stands-requires
+    returns-3
+    add-i
+    loop-less
+    loop-again
+    returns-4)

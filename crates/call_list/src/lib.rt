@@ -1,0 +1,5 @@
+// Lists of calls: how a line is read, and its call made (docs/CALLS.md).
+mod calls;
+pub mod line;
+pub mod reading;
+mod words;
