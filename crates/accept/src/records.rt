@@ -121,16 +121,16 @@ pub fn record_ok(k: u64, machines: u64, moment: u64, span: u64, tag: u64) -> boo
     if tag::mark(tag) != k {
         return false;
     }
-    if k == 0 {
-        return true;
-    }
     if k == 11 {
         return aggregate_ok(moment, span, tag);
     }
-    if k % 5 == 0 {
-        return stamp_ok(moment, span, tag);
+    if k % 5 != 0 {
+        return event_ok(k % 5, machines, moment, span, tag);
     }
-    event_ok(k % 5, machines, moment, span, tag)
+    if k == 0 {
+        return true;
+    }
+    stamp_ok(moment, span, tag)
 }
 
 // Whether a record of this moment and rank may come after one of the last moment and rank.

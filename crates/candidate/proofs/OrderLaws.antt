@@ -3,11 +3,14 @@ use Prim.Native.Nat.{ℕ}
 use mathlib.Core.Path.{_≡_, sym, ap, _∙_}
 use mathlib.Core.Bool.{Bool, true, false, not}
 use mathlib.Core.List.{List, head?}
+use mathlib.Core.Option.{Option}
 use borrow.Author.Tests.{not-true, not-false}
 use Rattle.rules.specs.Basics.{if_then_else_, _≤ᵈ_}
+use Rattle.rules.specs.ChoiceHeads.{Head}
 use Rattle.rules.specs.ChoiceDelays.{delays, offered, nextBlock}
 use Rattle.rules.specs.ChoiceRound.{candidate, firstFitting, aggregateFirst, blockFirst, eventFirst, orNone, anAggregate, aBlock, anEvent, dueTimer, dueAction}
 use Rattle.layout.specs.Layout.{stateFrom}
+use Rattle.queue.specs.Heads.{PeekedBoth}
 use Rattle.queue_peek.specs.declared.five.Delays.{Delays}
 use Rattle.queue_peek.specs.Decoded.{delayOf, delaysOf}
 use Rattle.candidate.specs.declared.Next.{Next}
@@ -69,8 +72,10 @@ chose-2 b x y e = sym (ap (λ (c : Bool). if c then x else y) e)
 
 module _ (h rs : List ℕ) (t : ℕ) (d : Delays) (r : Next) where
   module _ (x : Bool) (ex : x ≡ eventFirst (delaysOf d)) where
-    pub later-event : x ≡ true → Picked h rs r (orNone anEvent (offered (stateFrom h rs) t)) → Picked h rs r (laterFitting (stateFrom h rs) t (delaysOf d))
-    later-event e p = moved h rs r _ _ p (chose-1 (eventFirst (delaysOf d)) _ _ (sym ex ∙ e))
+    pub later-event :
+        x ≡ true → PeekedBoth h rs (d .found) (offered (stateFrom h rs) t) → ((hs ws : List ℕ) (o : Option Head) → PeekedBoth hs ws (d .found) o → Picked hs ws r (orNone anEvent o))
+        → Picked h rs r (laterFitting (stateFrom h rs) t (delaysOf d))
+    later-event e p q = moved h rs r _ _ (q h rs _ p) (chose-1 (eventFirst (delaysOf d)) _ _ (sym ex ∙ e))
 
     module _ (y : Bool) (e : x ≡ false) (ey : y ≡ (delayOf (d .i) ≤ᵈ delayOf (d .s))) where
       pub later-timer : y ≡ true → ((ws : List ℕ) → Picked h ws r (dueTimer (stateFrom h ws) t (delayOf (d .i)))) → Picked h rs r (laterFitting (stateFrom h rs) t (delaysOf d))

@@ -9,8 +9,8 @@ use lib.Dec.{ltb}
 use borrow.Author.Tests.{lt-ltb, le-ltb}
 use Rattle.rules.specs.Basics.{if_then_else_}
 use Rattle.rules.specs.State.{State, side}
-use Rattle.rules.specs.ChoiceHeads.{peekQueue}
-use Rattle.rules.specs.ChoiceDelays.{delays, offered, nextBlock, firstBlock, Block}
+use Rattle.rules.specs.ChoiceHeads.{Head as RulesHead}
+use Rattle.rules.specs.ChoiceDelays.{nextBlock, firstBlock, Block}
 use Rattle.rules.specs.ChoiceRound.{Slot, orNone, anAggregate, aBlock, anEvent, aTimer, dueTimer, dueAction, timerSlot, actionSlot, actionFrom, Candidate as RulesCandidate}
 use Rattle.moment.specs.declared.Length.{Length}
 use Rattle.moment.specs.declared.Moment.{Moment}
@@ -27,11 +27,10 @@ use Rattle.queue.specs.declared.peek.Found.the-variants.{Nothing as NotFound, A
 use Rattle.queue.specs.Heads.{foundOf, PeekedBoth}
 use Rattle.queue_peek.specs.declared.order.Delay.{Delay}
 use Rattle.queue_peek.specs.declared.order.Delay.the-variants.{Absent, In}
-use Rattle.queue_peek.specs.declared.five.Delays.{Delays}
 use Rattle.queue_peek.specs.declared.blocks.BlockEnd.{BlockEnd}
 use Rattle.queue_peek.specs.declared.blocks.Blocked.{Blocked}
 use Rattle.queue_peek.specs.declared.blocks.Blocked.the-variants.{Nothing as NotBlocked, Until}
-use Rattle.queue_peek.specs.Decoded.{delayOf, delaysOf, blockedOf, leastOf}
+use Rattle.queue_peek.specs.Decoded.{delayOf, blockedOf}
 use Rattle.queue_event.proofs.Laws.{nodes-next}
 use Rattle.layout.proofs.Banks.{chains-at}
 use Rattle.queue.proofs.HeadsOrder.{stands-on-at}
@@ -110,18 +109,14 @@ module _ (h : List ℕ) (k : Blocked) (ek : (rs : List ℕ) → blockedOf k ≡ 
 
 -- ---- what the queues offer
 
-module _ (h rs : List ℕ) (t : ℕ) (d : Delays) (least : Delay) (f : Found) (ed : delaysOf d ≡ delays (stateFrom h rs) t) (el : delayOf least ≡ leastOf (delaysOf d)) (p : PeekedBoth h rs f (peekQueue (stateFrom h rs) t (delayOf least))) where
-  offered-is : foundOf f ≡ offered (stateFrom h rs) t
-  unfolding offered delays
-  offered-is = p .is ∙ ap (peekQueue (stateFrom h rs) t) (el ∙ ap leastOf ed)
-
-  pub event-none : f ≡ NotFound → Picked h rs Nothing (orNone anEvent (offered (stateFrom h rs) t))
+module _ (f : Found) where
+  pub event-none : f ≡ NotFound → (h rs : List ℕ) (o : Option RulesHead) → PeekedBoth h rs f o → Picked h rs Nothing (orNone anEvent o)
   unfolding nextOf NextStands foundOf
-  event-none e = record { is = ap (orNone anEvent) (ap foundOf (sym e) ∙ offered-is); stands = tt }
+  event-none e h rs o p = record { is = ap (orNone anEvent) (ap foundOf (sym e) ∙ p .is); stands = tt }
 
-  pub event-some : (x : Head) → f ≡ At x → Picked h rs (Take (AnEvent x)) (orNone anEvent (offered (stateFrom h rs) t))
+  pub event-some : (x : Head) → f ≡ At x → (h rs : List ℕ) (o : Option RulesHead) → PeekedBoth h rs f o → Picked h rs (Take (AnEvent x)) (orNone anEvent o)
   unfolding nextOf NextStands candidateOf Stands foundOf
-  event-some x e = record { is = ap (orNone anEvent) (ap foundOf (sym e) ∙ offered-is); stands = stands-on-at h rs f x e (p .stands) }
+  event-some x e h rs o p = record { is = ap (orNone anEvent) (ap foundOf (sym e) ∙ p .is); stands = stands-on-at h rs f x e (p .stands) }
 
 -- ---- the timer and the action that are due
 

@@ -1,14 +1,17 @@
 // Which of the five a round takes up: the first that fits.
 ghost use mathlib.Core.Path.{_≡_};
 ghost use mathlib.Core.List.{List, head?};
+ghost use mathlib.Core.Option.{Option};
 ghost use Prim.Native.Nat.{ℕ, _≤_};
 ghost use lib.ListN.{length};
 ghost use Rattle.rules.specs.Limits.{momentLimit};
+ghost use Rattle.rules.specs.ChoiceHeads.{Head};
 ghost use Rattle.rules.specs.ChoiceDelays.{delays as delaysAt, nextBlock};
 ghost use Rattle.rules.specs.ChoiceDelays.{offered as offeredAt};
 ghost use Rattle.rules.specs.ChoiceRound.{candidate as candidateAt, aggregateFirst, blockFirst, eventFirst, orNone, anAggregate, aBlock, anEvent, dueTimer, dueAction};
 ghost use Rattle.layout.specs.Accepted.{Good};
 ghost use Rattle.layout.specs.Layout.{stateFrom};
+ghost use Rattle.queue.specs.Heads.{PeekedBoth};
 ghost use Rattle.queue_peek.specs.Decoded.{delayOf, delaysOf};
 ghost use Rattle.candidate.specs.Promises.{Picked, Ahead, laterFitting};
 use crate::Candidate;
@@ -99,14 +102,10 @@ fn block_candidate(head: &[u64]) -> Next
     Next::Take(Candidate::Block(k))
 }
 
-// What the queues offer.
-fn event_candidate(head: &[u64], rest: &[u64], d: Delays, time: Moment) -> Next
-    requires { ⌜ length (now head) ≡ 256 ⌝ ∗ ⌜ Good (now head) (now rest) ⌝ ∗ ⌜ time .0 ≤ momentLimit ⌝ }
-    requires { ⌜ delaysOf d ≡ delaysAt (stateFrom (now head) (now rest)) (time .0) ⌝ }
-    ensures { λ r. ⌜ Picked (now (head .entry)) (now (rest .entry)) r (orNone anEvent (offeredAt (stateFrom (now (head .entry)) (now (rest .entry))) (time .0))) ⌝ }
+// What the queues offer: the head that was found with its delay.
+fn event_candidate(found: Found) -> Next
+    ensures { λ r. ⌜ ((hs rs : List ℕ) (o : Option Head) → PeekedBoth hs rs found o → Picked hs rs r (orNone anEvent o)) ⌝ }
 {
-    let least = d.least();
-    let found = queue_peek::offered(head, rest, time, least);
     let Found::At(h) = found else {
         return Next::Nothing;
     };
@@ -148,11 +147,12 @@ fn action_candidate(head: &[u64], s: Delay, time: Moment) -> Next
 // The last three of the five.
 fn later_candidate(head: &[u64], rest: &[u64], d: Delays, time: Moment) -> Next
     requires { ⌜ length (now head) ≡ 256 ⌝ ∗ ⌜ Good (now head) (now rest) ⌝ ∗ ⌜ time .0 ≤ momentLimit ⌝ }
-    requires { ⌜ delaysOf d ≡ delaysAt (stateFrom (now head) (now rest)) (time .0) ⌝ }
+    requires { ⌜ delaysOf d ≡ delaysAt (stateFrom (now head) (now rest)) (time .0) ⌝ ∗ ⌜ PeekedBoth (now head) (now rest) (d .found) (offeredAt (stateFrom (now head) (now rest)) (time .0)) ⌝ }
     ensures { λ r. ⌜ Picked (now (head .entry)) (now (rest .entry)) r (laterFitting (stateFrom (now (head .entry)) (now (rest .entry))) (time .0) (delaysOf d)) ⌝ }
 {
     if event_first(d) {
-        return event_candidate(head, rest, d, time);
+        let found = d.found;
+        return event_candidate(found);
     }
     let s = d.s;
     let i = d.i;

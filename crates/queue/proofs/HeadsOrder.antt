@@ -1,5 +1,5 @@
 -- The order of heads, and the first of two findings. Assumes nothing.
-use Prim.Native.Nat.{ℕ, _-_, _<_, _≤_}
+use Prim.Native.Nat.{ℕ, _<_, _≤_}
 use mathlib.Core.Path.{_≡_, refl, sym, ap, ap₂, subst, _∙_}
 use mathlib.Core.Bool.{Bool, true, false, _&&_, _||_}
 use mathlib.Core.Logic.{_⊎_, inl, inr}
@@ -9,13 +9,13 @@ use native.Mathlib.Omega.{arith}
 use lib.Dec.{eqb, ltb}
 use borrow.Author.Tests.{lt-ltb, le-ltb, eq-eqb, ne-eqb}
 use Rattle.rules.specs.Basics.{if_then_else_, before, rank}
-use Rattle.rules.specs.ChoiceHeads.{firstBy, byMoment, byRawMoment, byDelay, Head as RulesHead}
+use Rattle.rules.specs.ChoiceHeads.{firstBy, byMoment, byRawMoment, Head as RulesHead}
 use Rattle.event.specs.Values.{kindAt}
 use Rattle.layout.proofs.Order.{rank-kind}
 use Rattle.queue.specs.declared.peek.Head.{Head}
 use Rattle.queue.specs.declared.peek.Found.{Found}
 use Rattle.queue.specs.declared.peek.Found.the-variants.{Nothing, At}
-use Rattle.queue.specs.Heads.{headFrom, foundOf, HeadOk, Stands, StandsOn, Known, Peeked, PeekedBoth, Chosen}
+use Rattle.queue.specs.Heads.{headFrom, foundOf, HeadOk, Stands, StandsOn, Known, Peeked, Chosen}
 
 -- ---- (moment, rank)
 
@@ -39,10 +39,6 @@ module _ (a b : Head) (r : Bool) (ka : a .event .kind .0 ≤ 9) (kb : b .event .
   pub by-raw : r ≡ before (a .event .moment .0) (a .event .kind .0) (b .event .moment .0) (b .event .kind .0) → r ≡ byRawMoment (headFrom a) (headFrom b)
   unfolding headFrom
   by-raw e = e ∙ ranked (a .event .moment .0) (b .event .moment .0)
-
-  pub by-delay : (t x y : ℕ) → x ≡ a .moment .0 - t → y ≡ b .moment .0 - t → r ≡ before x (a .event .kind .0) y (b .event .kind .0) → r ≡ byDelay t (headFrom a) (headFrom b)
-  unfolding headFrom
-  by-delay t x y ex ey e = e ∙ ap₂ (λ i j. before i (a .event .kind .0) j (b .event .kind .0)) ex ey ∙ ranked (a .moment .0 - t) (b .moment .0 - t)
 
 -- ---- the first of two
 
@@ -95,15 +91,6 @@ module _ (h rs : List ℕ) where
   unfolding Stands StandsOn
   stands-on b Nothing s = tt
   stands-on b (At x) s = subst (λ (z : Bool). HeadOk h rs z x) (sym (s .side)) s
-
-  pub peeked-both :
-      (b c : Bool) (lt : RulesHead → RulesHead → Bool) (f g r : Found) (o p : Option RulesHead) → Peeked h rs b f o → Peeked h rs c g p → Chosen lt f g r
-      → PeekedBoth h rs r (firstBy lt o p)
-  peeked-both b c lt f g r o p pf pg s = record { is = s .is ∙ ap₂ (firstBy lt) (pf .is) (pg .is); stands = go (s .one) }
-    where
-      go : (r ≡ f) ⊎ (r ≡ g) → StandsOn h rs r
-      go (inl e) = subst (StandsOn h rs) (sym e) (stands-on b f (pf .stands))
-      go (inr e) = subst (StandsOn h rs) (sym e) (stands-on c g (pg .stands))
 
   -- the head found, where there is one
   pub stands-at : (b : Bool) (f : Found) (x : Head) → f ≡ At x → Stands h rs b f → HeadOk h rs b x

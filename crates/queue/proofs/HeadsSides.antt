@@ -1,4 +1,4 @@
--- The heads of a side and of both, from the heads of their chains. Assumes nothing.
+-- The heads of a side, from the heads of its chains. Assumes nothing.
 use Prim.Native.Nat.{ℕ, _+_, _≤_}
 use mathlib.Core.Path.{_≡_, refl, sym, ap, _∙_}
 use mathlib.Core.Bool.{Bool, true, false}
@@ -8,14 +8,14 @@ use lib.ListN.{getD}
 use Rattle.rules.specs.Basics.{Side, client, server}
 use Rattle.rules.specs.State.{base, side}
 use Rattle.rules.specs.Limits.{momentLimit}
-use Rattle.rules.specs.ChoiceHeads.{headAs, firstBy, byMoment, byRawMoment, byDelay, bypassableHead, blockingHead, internalHead, baseHead, sideHead, queueHead, waitingHead, passingHead}
+use Rattle.rules.specs.ChoiceHeads.{headAs, firstBy, byMoment, byRawMoment, bypassableHead, blockingHead, internalHead, baseHead, waitingHead, passingHead}
 use Rattle.event.specs.HandedIn.{sideOf}
 use Rattle.layout.specs.Accepted.{Good}
 use Rattle.layout.specs.Layout.{bank, stateFrom}
 use Rattle.layout.specs.Changes.{sideNo}
 use Rattle.queue.specs.declared.peek.Found.{Found}
-use Rattle.queue.specs.Heads.{sideHeld, Known, Peeked, PeekedBoth, Chosen}
-use Rattle.queue.proofs.HeadsOrder.{peeked-known, peeked-first, peeked-both}
+use Rattle.queue.specs.Heads.{sideHeld, Known, Peeked, Chosen}
+use Rattle.queue.proofs.HeadsOrder.{peeked-known, peeked-first}
 
 -- ---- words of a side
 
@@ -41,13 +41,6 @@ module _ (h rs : List ℕ) (b : Bool) where
       (f g r : Found) → Peeked h rs b f (bypassableHead (sideHeld h rs b)) → Peeked h rs b g (blockingHead (sideHeld h rs b)) → Chosen byMoment f g r
       → Peeked h rs b r (firstBy byMoment (bypassableHead (sideHeld h rs b)) (blockingHead (sideHeld h rs b)))
   packet-peeked f g r pf pg c = peeked-first h rs b byMoment f g r _ _ pf pg c
-
-  pub side-peeked :
-      (p i o s r : Found) → Peeked h rs b p (firstBy byMoment (bypassableHead (sideHeld h rs b)) (blockingHead (sideHeld h rs b)))
-      → Peeked h rs b i (internalHead (sideHeld h rs b)) → Chosen byMoment p i o → Peeked h rs b s (baseHead (sideHeld h rs b)) → Chosen byMoment s o r
-      → Peeked h rs b r (sideHead (sideHeld h rs b))
-  unfolding sideHead
-  side-peeked p i o s r pp pi co ps cr = peeked-first h rs b byMoment s o r _ _ ps (peeked-first h rs b byMoment p i o _ _ pp pi co) cr
 
   -- behind a block, by its flag
   module _ (flag : Bool) where
@@ -76,17 +69,3 @@ module _ (h rs : List ℕ) (b : Bool) where
 
       pub passing-known : Known f
       passing-known = peeked-known h rs b f _ passing-peeked
-
-  -- the first of packets and internal events
-  pub others-known :
-      (p i o : Found) → Peeked h rs b p (firstBy byMoment (bypassableHead (sideHeld h rs b)) (blockingHead (sideHeld h rs b)))
-      → Peeked h rs b i (internalHead (sideHeld h rs b)) → Chosen byMoment p i o → Known o
-  others-known p i o pp pi co = peeked-known h rs b o _ (peeked-first h rs b byMoment p i o _ _ pp pi co)
-
--- ---- both
-
-pub queue-peeked :
-    (h rs : List ℕ) (t : ℕ) (c s r : Found) → Peeked h rs true c (sideHead (sideHeld h rs true)) → Peeked h rs false s (sideHead (sideHeld h rs false))
-    → Chosen (byDelay t) c s r → PeekedBoth h rs r (queueHead (stateFrom h rs) t)
-unfolding queueHead
-queue-peeked h rs t c s r pc ps x = peeked-both h rs true false (byDelay t) c s r _ _ pc ps x

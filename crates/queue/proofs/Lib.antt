@@ -9,4 +9,5 @@ pub mod Stamping
 pub mod HeadsChains
 pub mod HeadsOrder
 pub mod HeadsSides
+pub mod HeadsKeys
 pub mod Sizes

@@ -6,10 +6,10 @@ use mathlib.Core.List.{List}
 use mathlib.Core.Logic.{_⊎_}
 use mathlib.Core.Option.{Option, none, some}
 use lib.Dec.{eqb}
-use Rattle.rules.specs.Basics.{if_then_else_}
-use Rattle.rules.specs.State.{Chain, base, blocking, bypassable, internal, SideState, side}
+use Rattle.rules.specs.Basics.{if_then_else_, rank}
+use Rattle.rules.specs.State.{Chain, base, blocking, bypassable, internal, SideState, side, queue}
 use Rattle.rules.specs.Limits.{momentLimit}
-use Rattle.rules.specs.ChoiceHeads.{firstBy, Head as RulesHead}
+use Rattle.rules.specs.ChoiceHeads.{headAs, firstBy, byMoment, byDelay, Head as RulesHead}
 use Rattle.event.specs.HandedIn.{sideOf}
 use Rattle.queue_event.specs.Words.{In}
 use Rattle.queue_event.specs.Chain.{recAt}
@@ -20,6 +20,7 @@ use Rattle.layout.specs.Changes.{sideNo}
 use Rattle.event.specs.Values.{eventValue}
 use Rattle.queue.specs.declared.peek.Head.{Head}
 use Rattle.queue.specs.declared.peek.Found.{Found}
+use Rattle.queue.specs.declared.peek.Key.{Key}
 use Rattle.queue.specs.declared.peek.Found.the-variants.{Nothing, At}
 
 -- ---- decoding
@@ -74,6 +75,27 @@ unfoldable pub Known : Found → Type 0
 Known Nothing = Unit {0}
 Known (At x) = x .event .kind .0 ≤ 9
 
+-- ---- keys
+
+-- what is added to the moments of a side's chain: its sum to base's
+abbrev pub addedTo : ℕ → SideState → ℕ
+addedTo n x = if eqb n 1 then x .sum else 0
+
+-- the head of a side's chain as the choice sees it; 0 is no chain
+abbrev pub chainHead : ℕ → SideState → Option RulesHead
+chainHead n x = if eqb n 0 then none else headAs (chainAt n) (addedTo n x) (queue (x .queues) (chainAt n))
+
+-- a key has the moment and the rank of the head; where there is none its chain is 0
+unfoldable pub Tells : Key → Option RulesHead → Type 0
+Tells k none = k .chain ≡ 0
+Tells k (some x) = (0 < k .chain) × (k .moment .0 ≡ x .moment) × (k .rank ≡ rank (x .event .kind))
+
+-- the key of a head of the side: that of the chain which it names
+pub record KeyOf (x : SideState) (k : Key) (o : Option RulesHead) : Type 0 where
+  pub high : k .chain ≤ 4
+  pub is : chainHead (k .chain) x ≡ o
+  pub tells : Tells k o
+
 -- ---- promises
 
 -- of a reading of a side's queues: the rules' head, which stands there
@@ -90,3 +112,11 @@ pub record PeekedBoth (h rs : List ℕ) (f : Found) (o : Option RulesHead) : Typ
 pub record Chosen (lt : RulesHead → RulesHead → Bool) (a b r : Found) : Type 0 where
   pub is : foundOf r ≡ firstBy lt (foundOf a) (foundOf b)
   pub one : (r ≡ a) ⊎ (r ≡ b)
+
+-- of a choice between two keys of a side: the key of the rules' first of their heads
+pub record FirstKey (a b r : Key) : Type 0 where
+  pub is : (x : SideState) (o p : Option RulesHead) → KeyOf x a o → KeyOf x b p → KeyOf x r (firstBy byMoment o p)
+
+-- of a choice between the keys of two sides: whether the rules' first of their heads is the second
+pub record SecondSooner (t : ℕ) (a b : Key) (r : Bool) : Type 0 where
+  pub is : (o p : Option RulesHead) → Tells a o → Tells b p → (if r then p else o) ≡ firstBy (byDelay t) o p

@@ -16,6 +16,7 @@ use Rattle.layout.specs.Records.{headOf, countOf}
 use Rattle.layout.specs.Accepted.{Good}
 use Rattle.layout.specs.Layout.{aggregateFrom, heldAggregate, stateFrom}
 use Rattle.queue.specs.declared.peek.Found.{Found}
+use Rattle.queue.specs.declared.peek.Found.the-variants.{Nothing as NotFound}
 use Rattle.queue.specs.Heads.{foundOf, sideHeld, PeekedBoth}
 use Rattle.queue_event.proofs.Laws.{chain-in, nodes-next}
 use Rattle.layout.proofs.Banks.{chains-at}
@@ -27,7 +28,7 @@ use Rattle.queue_peek.specs.declared.blocks.Blocked.{Blocked}
 use Rattle.queue_peek.specs.declared.blocks.Blocked.the-variants.{Nothing, Until}
 use Rattle.queue_peek.specs.Decoded.{delayOf, delaysOf, blockedOf, noDelays, withS, withI, withB, withN, withQ, leastOf}
 
-pub none-filled : delaysOf (record { s = Absent; i = Absent; b = Absent; n = Absent; q = Absent }) ≡ noDelays
+pub none-filled : delaysOf (record { s = Absent; i = Absent; b = Absent; n = Absent; q = Absent; found = NotFound }) ≡ noDelays
 unfolding delaysOf delayOf
 none-filled = refl
 
@@ -43,13 +44,13 @@ module _ (h : List ℕ) (d : Delays) (t : ℕ) where
   module _ (x y z : Delay) (ez : delayOf z ≡ earlier (delayOf x) (delayOf y)) where
     pub s-filled :
         ((rs : List ℕ) → delayOf x ≡ leastDelay t (actionMoments (sideHeld h rs true))) → ((rs : List ℕ) → delayOf y ≡ leastDelay t (actionMoments (sideHeld h rs false)))
-        → (rs : List ℕ) → delaysOf (record { s = z; i = d .i; b = d .b; n = d .n; q = d .q }) ≡ withS (delaysOf d) (actionDelay (stateFrom h rs) t)
+        → (rs : List ℕ) → delaysOf (record { s = z; i = d .i; b = d .b; n = d .n; q = d .q; found = d .found }) ≡ withS (delaysOf d) (actionDelay (stateFrom h rs) t)
     unfolding delaysOf
     s-filled ex ey rs = ap (withS (delaysOf d)) (ez ∙ ap₂ earlier (ex rs) (ey rs))
 
     pub i-filled :
         ((rs : List ℕ) → delayOf x ≡ leastDelay t (sideHeld h rs true .timers)) → ((rs : List ℕ) → delayOf y ≡ leastDelay t (sideHeld h rs false .timers))
-        → (rs : List ℕ) → delaysOf (record { s = d .s; i = z; b = d .b; n = d .n; q = d .q }) ≡ withI (delaysOf d) (timerDelay (stateFrom h rs) t)
+        → (rs : List ℕ) → delaysOf (record { s = d .s; i = z; b = d .b; n = d .n; q = d .q; found = d .found }) ≡ withI (delaysOf d) (timerDelay (stateFrom h rs) t)
     unfolding delaysOf
     i-filled ex ey rs = ap (withI (delaysOf d)) (ez ∙ ap₂ earlier (ex rs) (ey rs))
 
@@ -59,13 +60,13 @@ module _ (h : List ℕ) (d : Delays) (t : ℕ) where
     b-is : (rs : List ℕ) → delayTo t (Option·map (λ (b : Block). b .end) (blockedOf k)) ≡ blockDelay (stateFrom h rs) t
     b-is rs = ap (λ o. delayTo t (Option·map (λ (b : Block). b .end) o)) (ek rs)
 
-    pub b-absent : k ≡ Nothing → (rs : List ℕ) → delaysOf (record { s = d .s; i = d .i; b = Absent; n = d .n; q = d .q }) ≡ withB (delaysOf d) (blockDelay (stateFrom h rs) t)
+    pub b-absent : k ≡ Nothing → (rs : List ℕ) → delaysOf (record { s = d .s; i = d .i; b = Absent; n = d .n; q = d .q; found = d .found }) ≡ withB (delaysOf d) (blockDelay (stateFrom h rs) t)
     unfolding delaysOf delayOf blockedOf
     b-absent e rs = ap (withB (delaysOf d)) (ap (λ (x : Blocked). delayTo t (Option·map (λ (b : Block). b .end) (blockedOf x))) (sym e) ∙ b-is rs)
 
     pub b-filled :
         (z : BlockEnd) (l : Length) → k ≡ Until z → l .0 ≡ z .end .0 - t
-        → (rs : List ℕ) → delaysOf (record { s = d .s; i = d .i; b = After l; n = d .n; q = d .q }) ≡ withB (delaysOf d) (blockDelay (stateFrom h rs) t)
+        → (rs : List ℕ) → delaysOf (record { s = d .s; i = d .i; b = After l; n = d .n; q = d .q; found = d .found }) ≡ withB (delaysOf d) (blockDelay (stateFrom h rs) t)
     unfolding delaysOf delayOf blockedOf
     b-filled z l e el rs = ap (withB (delaysOf d)) (ap after el ∙ ap (λ (x : Blocked). delayTo t (Option·map (λ (b : Block). b .end) (blockedOf x))) (sym e) ∙ b-is rs)
 
@@ -78,13 +79,13 @@ module _ (h : List ℕ) (d : Delays) (t : ℕ) where
         ap (λ l. delayTo t (Option·map (λ (a : Held Aggregate). a .value .moment) (head? (map heldAggregate l))))
         (ap (λ i. nodes rs i (headOf h 11)) em ∙ sym (chains-at h rs 11 (omega arith)))
 
-    pub n-absent : m ≡ 0 → delaysOf (record { s = d .s; i = d .i; b = d .b; n = Absent; q = d .q }) ≡ withN (delaysOf d) (aggregateDelay (stateFrom h rs) t)
+    pub n-absent : m ≡ 0 → delaysOf (record { s = d .s; i = d .i; b = d .b; n = Absent; q = d .q; found = d .found }) ≡ withN (delaysOf d) (aggregateDelay (stateFrom h rs) t)
     unfolding delaysOf delayOf nodes
     n-absent z = ap (withN (delaysOf d)) (sym (ap (λ i. delayTo t (Option·map (λ (a : Held Aggregate). a .value .moment) (head? (map heldAggregate (nodes rs i (headOf h 11)))))) z) ∙ n-is)
 
     pub n-filled :
         (m ≡ 0 → ⊥) → (p w : ℕ) (l : Length) → p ≡ headOf h 11 → w ≡ word rs p 1 → l .0 ≡ w - t
-        → delaysOf (record { s = d .s; i = d .i; b = d .b; n = After l; q = d .q }) ≡ withN (delaysOf d) (aggregateDelay (stateFrom h rs) t)
+        → delaysOf (record { s = d .s; i = d .i; b = d .b; n = After l; q = d .q; found = d .found }) ≡ withN (delaysOf d) (aggregateDelay (stateFrom h rs) t)
     unfolding delaysOf delayOf recAt aggregateFrom
     n-filled ne p w l ep ew el =
         ap (withN (delaysOf d))
@@ -92,13 +93,16 @@ module _ (h : List ℕ) (d : Delays) (t : ℕ) where
         ∙ sym (ap (λ l. delayTo t (Option·map (λ (a : Held Aggregate). a .value .moment) (head? (map heldAggregate l)))) (nodes-next rs m (headOf h 11) (omega (arith, ne))))
         ∙ n-is)
 
-  -- ---- q
+  -- ---- q, and the head
 
   pub q-filled :
       (rs : List ℕ) (least : Delay) (f : Found) (z : Delay) → delayOf least ≡ leastOf (delaysOf d) → PeekedBoth h rs f (peekQueue (stateFrom h rs) t (delayOf least)) → delayOf z ≡ headDelay t (foundOf f)
-      → delaysOf (record { s = d .s; i = d .i; b = d .b; n = d .n; q = z }) ≡ withQ (delaysOf d) (headDelay t (peekQueue (stateFrom h rs) t (leastOf (delaysOf d))))
+      → (delaysOf (record { s = d .s; i = d .i; b = d .b; n = d .n; q = z; found = f }) ≡ withQ (delaysOf d) (headDelay t (peekQueue (stateFrom h rs) t (leastOf (delaysOf d)))))
+      × PeekedBoth h rs f (peekQueue (stateFrom h rs) t (leastOf (delaysOf d)))
   unfolding delaysOf
-  q-filled rs least f z el pf ez = ap (withQ (delaysOf d)) (ez ∙ ap (headDelay t) (pf .is ∙ ap (peekQueue (stateFrom h rs) t) el))
+  q-filled rs least f z el pf ez =
+      let p = subst (λ x. PeekedBoth h rs f (peekQueue (stateFrom h rs) t x)) el pf in
+      (ap (withQ (delaysOf d)) (ez ∙ ap (headDelay t) (p .is)), p)
 
 -- the first aggregate's record
 pub aggregate-within : (h rs : List ℕ) (m p : ℕ) → Good h rs → m ≡ countOf h 11 → (m ≡ 0 → ⊥) → p ≡ headOf h 11 → In rs p
@@ -110,9 +114,13 @@ pub all-filled :
     (h rs : List ℕ) (t : ℕ) (d₀ d₁ d₂ d₃ d₄ d₅ : Delays) → delaysOf d₀ ≡ noDelays
     → ((x : List ℕ) → delaysOf d₁ ≡ withS (delaysOf d₀) (actionDelay (stateFrom h x) t)) → ((x : List ℕ) → delaysOf d₂ ≡ withI (delaysOf d₁) (timerDelay (stateFrom h x) t))
     → ((x : List ℕ) → delaysOf d₃ ≡ withB (delaysOf d₂) (blockDelay (stateFrom h x) t)) → delaysOf d₄ ≡ withN (delaysOf d₃) (aggregateDelay (stateFrom h rs) t)
-    → delaysOf d₅ ≡ withQ (delaysOf d₄) (headDelay t (peekQueue (stateFrom h rs) t (leastOf (delaysOf d₄)))) → delaysOf d₅ ≡ delays (stateFrom h rs) t
+    → (delaysOf d₅ ≡ withQ (delaysOf d₄) (headDelay t (peekQueue (stateFrom h rs) t (leastOf (delaysOf d₄))))) × PeekedBoth h rs (d₅ .found) (peekQueue (stateFrom h rs) t (leastOf (delaysOf d₄)))
+    → (delaysOf d₅ ≡ delays (stateFrom h rs) t) × PeekedBoth h rs (d₅ .found) (offered (stateFrom h rs) t)
 unfolding delays offered
-all-filled h rs t d₀ d₁ d₂ d₃ d₄ d₅ e₀ e₁ e₂ e₃ e₄ e₅ = e₅ ∙ ap (λ (x : RulesDelays). withQ x (headDelay t (peekQueue (stateFrom h rs) t (leastOf x)))) four
+all-filled h rs t d₀ d₁ d₂ d₃ d₄ d₅ e₀ e₁ e₂ e₃ e₄ e₅ = (
+  e₅ .0 ∙ ap (λ (x : RulesDelays). withQ x (headDelay t (peekQueue (stateFrom h rs) t (leastOf x)))) four,
+  subst (λ (x : RulesDelays). PeekedBoth h rs (d₅ .found) (peekQueue (stateFrom h rs) t (leastOf x))) four (e₅ .1),
+)
   where
     four : delaysOf d₄ ≡ withN (withB (withI (withS noDelays (actionDelay (stateFrom h rs) t)) (timerDelay (stateFrom h rs) t)) (blockDelay (stateFrom h rs) t)) (aggregateDelay (stateFrom h rs) t)
     four =

@@ -1,4 +1,4 @@
-// The five delays of a round as one value, filled one by one.
+// The five delays of a round as one value, filled one by one, and the head that was found for the fifth.
 ghost use mathlib.Core.Path.{_≡_};
 ghost use mathlib.Core.List.{List};
 ghost use Prim.Native.Nat.{ℕ, _≤_};
@@ -8,6 +8,7 @@ ghost use Rattle.rules.specs.ChoiceHeads.{headDelay, peekQueue};
 ghost use Rattle.rules.specs.ChoiceDelays.{actionDelay, timerDelay, blockDelay, aggregateDelay};
 ghost use Rattle.layout.specs.Accepted.{Good};
 ghost use Rattle.layout.specs.Layout.{stateFrom};
+ghost use Rattle.queue.specs.Heads.{PeekedBoth};
 ghost use Rattle.queue_peek.specs.Decoded.{delayOf, delaysOf, noDelays, withS, withI, withB, withN, withQ, leastOf};
 use crate::blocks;
 use crate::blocks::Blocked;
@@ -17,15 +18,17 @@ use crate::queues;
 use crate::slots;
 use moment::Moment;
 use queue::header;
+use queue::peek::Found;
 use queue_event::words;
 
-// Of an action, of a timer, of a block's end, of the first aggregate, and of the queues' head.
+// Of an action, of a timer, of a block's end, of the first aggregate, and of the queues' head, which stands beside its delay.
 pub struct Delays {
     pub s: Delay,
     pub i: Delay,
     pub b: Delay,
     pub n: Delay,
     pub q: Delay,
+    pub found: Found,
 }
 
 impl Delays {
@@ -39,6 +42,7 @@ impl Delays {
             b: Delay::Absent,
             n: Delay::Absent,
             q: Delay::Absent,
+            found: Found::Nothing,
         }
     }
 
@@ -51,10 +55,18 @@ impl Delays {
         let b = self.b;
         let n = self.n;
         let q = self.q;
+        let found = self.found;
         let client = slots::least_action(head, true, time);
         let server = slots::least_action(head, false, time);
         let s = order::earlier(client, server);
-        self = Self { s, i, b, n, q };
+        self = Self {
+            s,
+            i,
+            b,
+            n,
+            q,
+            found,
+        };
         self
     }
 
@@ -67,10 +79,18 @@ impl Delays {
         let b = self.b;
         let n = self.n;
         let q = self.q;
+        let found = self.found;
         let client = slots::least_timer(head, true, time);
         let server = slots::least_timer(head, false, time);
         let i = order::earlier(client, server);
-        self = Self { s, i, b, n, q };
+        self = Self {
+            s,
+            i,
+            b,
+            n,
+            q,
+            found,
+        };
         self
     }
 
@@ -83,6 +103,7 @@ impl Delays {
         let i = self.i;
         let n = self.n;
         let q = self.q;
+        let found = self.found;
         let next = blocks::next_block(head);
         let Blocked::Until(k) = next else {
             self = Self {
@@ -91,6 +112,7 @@ impl Delays {
                 b: Delay::Absent,
                 n,
                 q,
+                found,
             };
             return self;
         };
@@ -100,6 +122,7 @@ impl Delays {
             b: Delay::In(k.end.since(time)),
             n,
             q,
+            found,
         };
         self
     }
@@ -113,6 +136,7 @@ impl Delays {
         let i = self.i;
         let b = self.b;
         let q = self.q;
+        let found = self.found;
         let count = header::count(head, header::AGGREGATES);
         if count == 0 {
             self = Self {
@@ -121,6 +145,7 @@ impl Delays {
                 b,
                 n: Delay::Absent,
                 q,
+                found,
             };
             return self;
         }
@@ -132,6 +157,7 @@ impl Delays {
             b,
             n: Delay::In(moment.since(time)),
             q,
+            found,
         };
         self
     }
@@ -147,10 +173,10 @@ impl Delays {
         order::earlier(order::earlier(order::earlier(s, i), b), n)
     }
 
-    // q: the head of the queues.
+    // q: the head of the queues, which is kept for the candidate.
     pub fn peek_queue(mut self, head: &[u64], rest: &[u64], time: Moment) -> Self
         requires { ⌜ length (now head) ≡ 256 ⌝ ∗ ⌜ Good (now head) (now rest) ⌝ ∗ ⌜ time .0 ≤ momentLimit ⌝ }
-        ensures { λ r. ⌜ delaysOf r ≡ withQ (delaysOf self) (headDelay (time .0) (peekQueue (stateFrom (now (head .entry)) (now (rest .entry))) (time .0) (leastOf (delaysOf self)))) ⌝ }
+        ensures { λ r. ⌜ (delaysOf r ≡ withQ (delaysOf self) (headDelay (time .0) (peekQueue (stateFrom (now (head .entry)) (now (rest .entry))) (time .0) (leastOf (delaysOf self))))) × PeekedBoth (now (head .entry)) (now (rest .entry)) (r .found) (peekQueue (stateFrom (now (head .entry)) (now (rest .entry))) (time .0) (leastOf (delaysOf self))) ⌝ }
     {
         let s = self.s;
         let i = self.i;
@@ -159,7 +185,14 @@ impl Delays {
         let least = self.least();
         let found = queues::offered(head, rest, time, least);
         let q = queues::head_delay(found, time);
-        self = Self { s, i, b, n, q };
+        self = Self {
+            s,
+            i,
+            b,
+            n,
+            q,
+            found,
+        };
         self
     }
 }

@@ -1,7 +1,7 @@
 -- `accept::records::record_ok` meets its contract. Assumes nothing.
 use native.Mathlib.Omega.{arith}
-use Rattle.layout.proofs.Deciding.{fails, hands}
 use borrow.Author.Needs.{needs}
+use Rattle.layout.proofs.Deciding.{fails, hands}
 use Rattle.accept.proofs.records.record_ok.Statement.{statement}
 use Rattle.accept.proofs.records.record_ok.Tie as tie
 
@@ -11,26 +11,26 @@ mark-requires c κs = search needs
 returns : tie.Need-returns
 returns c = fails (λ p. omega (arith, p .chain))
 
-returns-2 : tie.Need-returns-2
-returns-2 c = search needs
-
 aggregate-ok-requires : tie.Need-aggregate-ok-requires
 aggregate-ok-requires c κs = search needs
 
-returns-3 : tie.Need-returns-3
-returns-3 c = hands (c .aggregate-ok .ensures) (λ q. record { chain = omega arith; event = omega arith; stamp = omega arith; aggregate = λ _. q }) (λ p. p .aggregate (omega arith))
-
-stamp-ok-requires : tie.Need-stamp-ok-requires
-stamp-ok-requires c κs = search needs
-
-returns-4 : tie.Need-returns-4
-returns-4 c = hands (c .stamp-ok .ensures) (λ q. record { chain = omega arith; event = omega arith; stamp = λ _ _. q; aggregate = omega arith }) (λ p. p .stamp (omega arith) (omega arith))
+returns-2 : tie.Need-returns-2
+returns-2 c = hands (c .aggregate-ok .ensures) (λ q. record { chain = omega arith; event = omega arith; stamp = omega arith; aggregate = λ _. q }) (λ p. p .aggregate (omega arith))
 
 event-ok-requires : tie.Need-event-ok-requires
 event-ok-requires c κs = search needs
 
+returns-3 : tie.Need-returns-3
+returns-3 c = hands (c .event-ok .ensures) (λ q. record { chain = omega arith; event = λ _ _. q; stamp = omega arith; aggregate = omega arith }) (λ p. p .event (omega arith) (omega arith))
+
+returns-4 : tie.Need-returns-4
+returns-4 c = search needs
+
+stamp-ok-requires : tie.Need-stamp-ok-requires
+stamp-ok-requires c κs = search needs
+
 returns-5 : tie.Need-returns-5
-returns-5 c = hands (c .event-ok .ensures) (λ q. record { chain = omega arith; event = λ _ _. q; stamp = omega arith; aggregate = omega arith }) (λ p. p .event (omega arith) (omega arith))
+returns-5 c = hands (c .stamp-ok .ensures) (λ q. record { chain = omega arith; event = omega arith; stamp = λ _ _. q; aggregate = omega arith }) (λ p. p .stamp (omega arith) (omega arith))
 
 pub record-ok-spec : {M : Type 1} → statement M
 record-ok-spec =
@@ -38,10 +38,10 @@ record-ok-spec =
     (tie.spec
     mark-requires
     returns
-    returns-2
     aggregate-ok-requires
-    returns-3
-    stamp-ok-requires
-    returns-4
+    returns-2
     event-ok-requires
+    returns-3
+    returns-4
+    stamp-ok-requires
     returns-5)

@@ -4,12 +4,6 @@ use Rattle.candidate.proofs.PickLaws.{event-none, event-some}
 use Rattle.candidate.proofs.first.event_candidate.Statement.{statement}
 use Rattle.candidate.proofs.first.event_candidate.Tie as tie
 
-least-requires : tie.Need-least-requires
-least-requires c κs = search needs
-
-offered-requires : tie.Need-offered-requires
-offered-requires c κs = search needs
-
 enum-known-found : tie.Need-enum-known-found
 enum-known-found c = search needs
 
@@ -24,5 +18,4 @@ returns-2 c = search event-some
 
 pub event-candidate-spec : {M : Type 1} → statement M
 event-candidate-spec =
-    tie.close
-    (tie.spec least-requires offered-requires enum-known-found enum-told returns returns-2)
+    tie.close (tie.spec enum-known-found enum-told returns returns-2)

@@ -1,21 +1,38 @@
 -- `queue::peek::peek` meets its contract. Assumes nothing.
 use borrow.Author.Needs.{needs}
-use Rattle.queue.proofs.HeadsOrder.{peeked-known}
-use Rattle.queue.proofs.HeadsSides.{queue-peeked}
+use Rattle.queue.proofs.HeadsKeys.{server-peeked, client-peeked}
 use Rattle.queue.proofs.peek.peek.Statement.{statement}
 use Rattle.queue.proofs.peek.peek.Tie as tie
 
-peek-side-requires : tie.Need-peek-side-requires
-peek-side-requires c κs = search needs
+side-key-requires : tie.Need-side-key-requires
+side-key-requires c κs = search needs
 
-peek-side-requires-2 : tie.Need-peek-side-requires-2
-peek-side-requires-2 c κs = search needs
+side-key-requires-2 : tie.Need-side-key-requires-2
+side-key-requires-2 c κs = search needs
 
-sooner-of-requires : tie.Need-sooner-of-requires
-sooner-of-requires c κs = (search peeked-known, search peeked-known)
+server-sooner-requires : tie.Need-server-sooner-requires
+server-sooner-requires c κs = search needs
+
+keyed-requires : tie.Need-keyed-requires
+keyed-requires c κs = search needs
 
 returns : tie.Need-returns
-returns c = search queue-peeked
+returns c = search server-peeked
+
+keyed-requires-2 : tie.Need-keyed-requires-2
+keyed-requires-2 c κs = search needs
+
+returns-2 : tie.Need-returns-2
+returns-2 c = search client-peeked
 
 pub peek-spec : {M : Type 1} → statement M
-peek-spec = tie.close (tie.spec peek-side-requires peek-side-requires-2 sooner-of-requires returns)
+peek-spec =
+    tie.close
+    (tie.spec
+    side-key-requires
+    side-key-requires-2
+    server-sooner-requires
+    keyed-requires
+    returns
+    keyed-requires-2
+    returns-2)

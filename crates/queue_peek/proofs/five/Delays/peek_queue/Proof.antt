@@ -14,7 +14,7 @@ head-delay-requires : tie.Need-head-delay-requires
 head-delay-requires c κs = search needs
 
 returns : tie.Need-returns
-returns c = search q-filled
+returns c = q-filled _ _ _ _ _ _ _ (c .before .before .least .ensures) (c .before .offered .ensures) (c .head-delay .ensures)
 
 pub peek-queue-spec : {M : Type 1} → statement M
 peek-queue-spec = tie.close (tie.spec least-requires offered-requires head-delay-requires returns)
