@@ -19,13 +19,13 @@ fn kind_ok(place: u64, kind: u64, bypass: u64) -> bool
     requires { ⌜ (0 < place) × (place < 5) ⌝ }
     ensures { λ r. ⌜ Decides (KindOk place kind bypass) r ⌝ }
 {
-    if kind > 9 {
-        return false;
-    }
     if place == 1 {
         return kind == 1;
     }
     if place == 4 {
+        if kind > 9 {
+            return false;
+        }
         return kind > 1;
     }
     if kind != 0 {

@@ -228,15 +228,6 @@ fn keyed(head: &[u64], rest: &[u64], chain: u64, client: bool) -> Found
     plain_head(head, rest, chain, client)
 }
 
-// The first of a side's heads.
-pub fn peek_side(head: &[u64], rest: &[u64], client: bool) -> Found
-    requires { ⌜ length (now head) ≡ 256 ⌝ ∗ ⌜ Good (now head) (now rest) ⌝ }
-    ensures { λ r. ⌜ Peeked (now (head .entry)) (now (rest .entry)) client r (sideHead (sideHeld (now (head .entry)) (now (rest .entry)) client)) ⌝ }
-{
-    let first = side_key(head, rest, client);
-    keyed(head, rest, first.chain, client)
-}
-
 // Whether the server's head is strictly before the client's, by the delay from the time and then by rank.
 fn server_sooner(client: Key, server: Key, time: Moment) -> bool
     ensures { λ r. ⌜ SecondSooner (time .0) client server r ⌝ }

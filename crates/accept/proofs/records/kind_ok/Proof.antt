@@ -6,10 +6,10 @@ use Rattle.accept.proofs.records.kind_ok.Statement.{statement}
 use Rattle.accept.proofs.records.kind_ok.Tie as tie
 
 returns : tie.Need-returns
-returns c = fails (λ p. omega (arith, p .kinds))
+returns c = by-eqb _ _ (λ e. omega arith) (λ p. p .base (omega arith))
 
 returns-2 : tie.Need-returns-2
-returns-2 c = by-eqb _ _ (λ e. omega arith) (λ p. p .base (omega arith))
+returns-2 c = fails (λ p. omega (arith, p .kinds))
 
 returns-3 : tie.Need-returns-3
 returns-3 c = by-ltb _ _ (λ e. omega arith) (λ p. p .internal (omega arith))
