@@ -51,10 +51,10 @@ extern "C" {
 #define MAYBENOT_CORE_MAX_RATE UINT64_C(4294967295)              /* packets a window; the least is 1 */
 
 /*
- * Stack to keep free for a call, in bytes. Measured, not proved: on x86-64 a choice takes 1,600 bytes, a step 720 and every
- * other call less than 450, arguments, return address and the calling function's own frame included. That is the deepest
+ * Stack to keep free for a call, in bytes. Measured, not proved: on x86-64 a choice takes 1,232 bytes, a step 640 and every
+ * other call less than 300, arguments, return address and the calling function's own frame included. That is the deepest
  * of 110,000 random calls on a painted stack (runs/stack.c, which runs/bindings runs and holds to this number). No function
- * of the archive calls itself, and the frames in its machine code come to 1,543 bytes at most.
+ * of the archive calls itself.
  */
 #define MAYBENOT_CORE_STACK_BYTES 2048u
 

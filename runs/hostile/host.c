@@ -5,21 +5,12 @@
  * held to the reading in reading.c. Ends with a table; exit status 0 if all was
  * as it should be, else 1. Compiled with -DEXACT it lends exact pieces of the heap
  * instead, for valgrind. */
+#include "../../include/maybenot_core.h"
 #include "blocks.h"
 #include <stdio.h>
 #include <stdlib.h>
 #include <string.h>
 #include <sys/mman.h>
-
-extern _Bool maybenot_core_accepted(const word *, size_t);
-extern word maybenot_core_open(word *, size_t, word, word, word, word, word, word, word, word, word, word, word, word);
-extern word maybenot_core_push_sim(word *, size_t, word, word, word, word, word, word, word, word);
-extern word maybenot_core_set_action(word *, size_t, word, word, word, word, word, word, word);
-extern word maybenot_core_clear_action(word *, size_t, word, word);
-extern word maybenot_core_set_timer(word *, size_t, word, word, word);
-extern word maybenot_core_clear_timer(word *, size_t, word, word);
-extern word maybenot_core_pick_next(word *, size_t, word, word *, size_t);
-extern word maybenot_core_sim_network_stack(word *, size_t, word, word, word, word, word, word, word, word, word, word *, size_t);
 
 #define PAGE 4096
 #define CANARY 0xa5
