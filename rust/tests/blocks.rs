@@ -1,29 +1,9 @@
 //! Owned and lent blocks, and answers that are handed a place of another length.
 
-use maybenot_core::{
-    sys, words_for, Core, Kind, Opening, Side, SideOpening, SimEvent, MAX_RECORDS,
-};
+mod common;
 
-/// One machine on each side.
-fn opening() -> Opening {
-    let side = SideOpening {
-        machines: 1,
-        ..SideOpening::default()
-    };
-    Opening {
-        client: side,
-        server: side,
-        ..Opening::default()
-    }
-}
-
-fn core(records: usize) -> Core<'static> {
-    Core::with_records(records, &opening()).expect("inside the limits")
-}
-
-fn packet(moment: u64) -> SimEvent {
-    SimEvent::new(Kind::NORMAL_SENT, Side::Client, moment)
-}
+use common::{core, opening, packet};
+use maybenot_core::{sys, words_for, Core, Side, MAX_RECORDS};
 
 #[test]
 fn number_1_the_records() {

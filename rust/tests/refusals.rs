@@ -1,31 +1,13 @@
 //! Each number of a refusal through the safe crate, on lengths that are none too.
 
+mod common;
+
+use common::{core, opening, packet};
 use maybenot_core::{
     accepted, Action, ActionKind, Choice, Core, Kind, Opening, Refusal, Side, SideOpening,
     SimEvent, MAX_EVENT_DELAY, MAX_LENGTH, MAX_MACHINES, MAX_MOMENT,
 };
 use std::error::Error;
-
-/// One machine on each side.
-fn opening() -> Opening {
-    let side = SideOpening {
-        machines: 1,
-        ..SideOpening::default()
-    };
-    Opening {
-        client: side,
-        server: side,
-        ..Opening::default()
-    }
-}
-
-fn core(records: usize) -> Core<'static> {
-    Core::with_records(records, &opening()).expect("inside the limits")
-}
-
-fn packet(moment: u64) -> SimEvent {
-    SimEvent::new(Kind::NORMAL_SENT, Side::Client, moment)
-}
 
 /// Holds the number, and that the words are as before.
 fn refused<T: std::fmt::Debug>(
