@@ -3,7 +3,7 @@ use Prim.Native.Nat.{ℕ, max, _+_, _-_, _^_, _<_, _≤_}
 use mathlib.Core.Path.{_≡_, refl, sym, ap, ap₂, subst, _∙_}
 use mathlib.Core.Bool.{Bool, true, false, not, _&&_}
 use mathlib.Core.List.{List, [], _∷_}
-use mathlib.Core.Option.{Option, none, some, Option·getD}
+use mathlib.Core.Option.{none, some, Option·getD}
 use native.Mathlib.Omega.{arith}
 use lib.Dec.{leb, ltb}
 use lib.ListN.{getD}
@@ -28,7 +28,7 @@ use Rattle.queue_peek.specs.Decoded.{blockFrom}
 use Rattle.delay.specs.declared.Base.{Base}
 use Rattle.delay.specs.declared.Margins.{Margins}
 use Rattle.delay.specs.declared.Delayed.{Delayed}
-use Rattle.delay.specs.Tests.{baseOf, delayedOf, sumsIn, usualMargins, expireOver}
+use Rattle.delay.specs.Tests.{baseOf, delayedOf, usualMargins, expireOver}
 use Rattle.network.specs.Due.{moments}
 use Rattle.queue.proofs.HeadsSides.{sum-held}
 use Rattle.queue_peek.proofs.BlockLaws.{end-small}
@@ -62,14 +62,10 @@ network-within h rs g = g .limits 0 (omega arith)
 
 -- ---- the base head plus the sum
 
-some-sum : (o : Option ℕ) → sumsIn o ≡ someSum o
-some-sum none = refl
-some-sum (some n) = refl
-
 pub base-sum : (h rs : List ℕ) (b : Bool) (sum : ℕ) (o : Base) (r : Bool) → sum ≡ getD h (10 + sideNo (sideOf b)) 0 → baseOf o ≡ baseMoment sum (sideHeld h rs b .queues .base)
-    → r ≡ fits (sumsIn (baseOf o)) → r ≡ fits (someSum (baseMoment (sideHeld h rs b .sum) (sideHeld h rs b .queues .base)))
+    → r ≡ fits (someSum (baseOf o)) → r ≡ fits (someSum (baseMoment (sideHeld h rs b .sum) (sideHeld h rs b .queues .base)))
 base-sum h rs b sum o r es eo er =
-    er ∙ ap fits (some-sum (baseOf o)) ∙ ap (λ x. fits (someSum x)) (eo ∙ ap (λ n. baseMoment n (sideHeld h rs b .queues .base)) (es ∙ sym (sum-held h rs (sideOf b))))
+    er ∙ ap (λ x. fits (someSum x)) (eo ∙ ap (λ n. baseMoment n (sideHeld h rs b .queues .base)) (es ∙ sym (sum-held h rs (sideOf b))))
 
 -- ---- the sums of every round
 

@@ -7,10 +7,11 @@ use mathlib.Core.Bool.{Bool}
 use lib.Dec.{leb, ltb, eqb}
 use lib.ListN.{length}
 use Rattle.rules.specs.Basics.{if_then_else_}
+use Rattle.rules.specs.ChoiceRound.{someSum}
 use Rattle.rules.specs.State.{Event, Held, SideState}
 use Rattle.rules.specs.Aggregates.{anyWithin, waiting, within, baseMoment, baseWindow, adjacentWindow, bufferWindow, tailOf, burstTail, onExpire, onReplace, onDelayed, testSums}
 use Rattle.delay.specs.Waiting.{tailOver, burstTailOver}
-use Rattle.delay.specs.Tests.{usualMargins, sumsIn, expireOver, replaceOver, delayedOver, sumsOver}
+use Rattle.delay.specs.Tests.{usualMargins, expireOver, replaceOver, delayedOver, sumsOver}
 
 tail-usual : (u t : ℕ) (l : List (Held Event)) → tailOver bufferWindow u t l ≡ tailOf u t l
 unfolding tailOver
@@ -38,6 +39,6 @@ pub sums-usual : (x : SideState) (sum u : ℕ) → sumsOver usualMargins sum x u
 unfolding sumsOver
 sums-usual x sum u = go (baseMoment sum (x .queues .base)) (anyWithin adjacentWindow u (waiting x))
   where
-    go : (o : Option ℕ) (t : Bool) → (if t then [] else sumsIn o) ≡ (if t then [] else Option·getD (Option·map (λ (n : ℕ). n ∷ []) o) [])
+    go : (o : Option ℕ) (t : Bool) → (if t then [] else someSum o) ≡ (if t then [] else Option·getD (Option·map (λ (n : ℕ). n ∷ []) o) [])
     go none t = refl
     go (some n) t = refl

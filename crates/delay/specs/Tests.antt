@@ -2,10 +2,11 @@
 use Prim.Native.Nat.{ℕ, _-_}
 use mathlib.Core.Path.{_≡_}
 use mathlib.Core.Bool.{Bool, _&&_, not}
-use mathlib.Core.List.{List, [], _∷_, tail}
+use mathlib.Core.List.{List, [], tail}
 use mathlib.Core.Option.{Option, none, some}
 use lib.Dec.{eqb}
 use Rattle.rules.specs.Basics.{if_then_else_}
+use Rattle.rules.specs.ChoiceRound.{someSum}
 use Rattle.rules.specs.State.{SideState, queue, withQueue, withQueues}
 use Rattle.rules.specs.Aggregates.{anyWithin, waiting, within, baseMoment, bufferWindow, baseWindow, adjacentWindow}
 use Rattle.queue.specs.Heads.{chainAt}
@@ -30,20 +31,15 @@ abbrev pub baseOf : Base → Option ℕ
 baseOf NoBase = none
 baseOf (At m) = some (m .0)
 
--- the sums formed for it
-abbrev pub sumsIn : Option ℕ → List ℕ
-sumsIn none = []
-sumsIn (some t) = t ∷ []
-
 -- what a test found is this length, with these sums formed
 pub record TestedAs (t : Tested) (by : Option ℕ) (sums : List ℕ) : Type 0 where
   pub found : delayedOf (t .by) ≡ by
-  pub formed : sumsIn (baseOf (t .base)) ≡ sums
+  pub formed : someSum (baseOf (t .base)) ≡ sums
 
 -- a test's answer is this, with these sums formed
 pub record AskedAs (t : Asked) (yes : Bool) (sums : List ℕ) : Type 0 where
   pub found : t .yes ≡ yes
-  pub formed : sumsIn (baseOf (t .base)) ≡ sums
+  pub formed : someSum (baseOf (t .base)) ≡ sums
 
 -- the margins of delay.rs
 abbrev pub usualMargins : Margins
@@ -75,4 +71,4 @@ delayedOver m sum x u =
 
 -- testSums
 unfoldable pub sumsOver : Margins → ℕ → SideState → ℕ → List ℕ
-sumsOver m sum x u = if anyWithin (m .adjacent .0) u (waiting x) then [] else sumsIn (baseMoment sum (x .queues .base))
+sumsOver m sum x u = if anyWithin (m .adjacent .0) u (waiting x) then [] else someSum (baseMoment sum (x .queues .base))

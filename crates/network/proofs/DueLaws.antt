@@ -11,7 +11,7 @@ use Rattle.rules.specs.Basics.{Side, client, server}
 use Rattle.rules.specs.State.{Aggregate}
 use Rattle.rules.specs.Limits.{momentLimit}
 use Rattle.rules.specs.Aggregates.{aggregatesOf}
-use Rattle.rules.specs.ChoiceRound.{fits}
+use Rattle.rules.specs.ChoiceRound.{fits, someSum}
 use Rattle.moment.specs.declared.Length.{Length}
 use Rattle.moment.specs.declared.Moment.{Moment}
 use Rattle.event.specs.HandedIn.{sideOf}
@@ -19,7 +19,7 @@ use Rattle.delay.specs.declared.Delayed.{Delayed}
 use Rattle.delay.specs.declared.Delayed.the-variants.{Nothing, By}
 use Rattle.delay.specs.declared.Base.{Base}
 use Rattle.delay.specs.declared.Base.the-variants.{Nothing as NoBase, At}
-use Rattle.delay.specs.Tests.{delayedOf, baseOf, sumsIn}
+use Rattle.delay.specs.Tests.{delayedOf, baseOf}
 use Rattle.network.specs.declared.aggregate.TwoAggregates.{TwoAggregates}
 use Rattle.network.specs.Due.{bothOf, moments}
 
@@ -102,13 +102,13 @@ fits-append (n ∷ a) b = go (leb n momentLimit) (fits-append a b)
     go true e = e
     go false e = refl
 
-pub base-none : (o : Base) → o ≡ NoBase → true ≡ fits (sumsIn (baseOf o))
+pub base-none : (o : Base) → o ≡ NoBase → true ≡ fits (someSum (baseOf o))
 unfolding fits
-base-none o e = sym (ap (λ x. fits (sumsIn (baseOf x))) e)
+base-none o e = sym (ap (λ x. fits (someSum (baseOf x))) e)
 
-pub base-at : (o : Base) (m : Moment) (r : Bool) → o ≡ At m → r ≡ leb (m .0) momentLimit → r ≡ fits (sumsIn (baseOf o))
+pub base-at : (o : Base) (m : Moment) (r : Bool) → o ≡ At m → r ≡ leb (m .0) momentLimit → r ≡ fits (someSum (baseOf o))
 unfolding fits
-base-at o m r e er = er ∙ and-one (leb (m .0) momentLimit) ∙ sym (ap (λ x. fits (sumsIn (baseOf x))) e)
+base-at o m r e er = er ∙ and-one (leb (m .0) momentLimit) ∙ sym (ap (λ x. fits (someSum (baseOf x))) e)
   where
     and-one : (t : Bool) → t ≡ t && true
     and-one true = refl

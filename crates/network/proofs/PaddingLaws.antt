@@ -12,7 +12,7 @@ use Rattle.rules.specs.Basics.{Side, client, server, if_then_else_}
 use Rattle.rules.specs.State.{Event, SideState, State, side, withSide}
 use Rattle.rules.specs.Aggregates.{aggregatesOf, onReplace, testSums}
 use Rattle.rules.specs.ChoiceHeads.{Head, waitingHead}
-use Rattle.rules.specs.ChoiceRound.{fits, liftEvent, popSide}
+use Rattle.rules.specs.ChoiceRound.{fits, liftEvent, popSide, someSum}
 use Rattle.rules.specs.NetworkStep.{asPadding, replaceBy, replacing, stepPadding, unmoved}
 use Rattle.event.specs.declared.SimEvent.{SimEvent}
 use Rattle.event.specs.HandedIn.{sideOf}
@@ -24,7 +24,7 @@ use Rattle.queue.specs.declared.peek.Found.the-variants.{Nothing, At}
 use Rattle.queue.specs.Heads.{chainAt, headFrom, foundOf, sideHeld, HeadOk, Peeked}
 use Rattle.delay.specs.declared.Margins.{Margins}
 use Rattle.delay.specs.declared.Tested.{Tested}
-use Rattle.delay.specs.Tests.{delayedOf, baseOf, sumsIn, usualMargins, without, replaceOver, sumsOver, TestedAs}
+use Rattle.delay.specs.Tests.{delayedOf, baseOf, usualMargins, without, replaceOver, sumsOver, TestedAs}
 use Rattle.layout.specs.Changes.{sideNo}
 use Rattle.layout.proofs.Banks.{bank-at}
 use Rattle.queue.proofs.HeadsOrder.{stands-at}
@@ -108,7 +108,7 @@ replaced h rs c now sum y m t em es et = ap₂ (takes (headFrom y)) found formed
     found : delayedOf (t .by) ≡ onReplace x now (y .event .moment .0)
     found = et .found ∙ ap₂ (λ a b. replaceOver a b x now (y .event .moment .0)) em same ∙ replace-usual x now (y .event .moment .0)
 
-    formed : sumsIn (baseOf (t .base)) ≡ testSums x (x .sum) (y .event .moment .0)
+    formed : someSum (baseOf (t .base)) ≡ testSums x (x .sum) (y .event .moment .0)
     formed = et .formed ∙ ap₂ (λ a b. sumsOver a b x (y .event .moment .0)) em same ∙ sums-usual x (x .sum) (y .event .moment .0)
 
 -- ---- flag_of
@@ -211,11 +211,11 @@ module _ (p : Padding) where
     pub fit-taken : (r : Replaced) (b : Bool) → p ≡ Replaces r → b ≡ fits (paddingSums d now (paddingOf (Replaces r))) → b ≡ fits (paddingSums d now (paddingOf p))
     fit-taken r b e q = q ∙ sym (ap (λ x. fits (paddingSums d now (paddingOf x))) e)
 
-module _ (r : Replaced) (d now : ℕ) (a b : Bool) (ea : a ≡ fits (sumsIn (baseOf (r .base)))) (eb : b ≡ fits (moments (aggregatesOf d (sideOf (r .head .event .client)) now (delayedOf (r .by))))) where
+module _ (r : Replaced) (d now : ℕ) (a b : Bool) (ea : a ≡ fits (someSum (baseOf (r .base)))) (eb : b ≡ fits (moments (aggregatesOf d (sideOf (r .head .event .client)) now (delayedOf (r .by))))) where
   fit-is : fits (paddingSums d now (paddingOf (Replaces r))) ≡ a && b
   unfolding paddingOf headFrom
   fit-is =
-      fits-append (sumsIn (baseOf (r .base))) (moments (aggregatesOf d (sideOf (r .head .event .client)) now (delayedOf (r .by))))
+      fits-append (someSum (baseOf (r .base))) (moments (aggregatesOf d (sideOf (r .head .event .client)) now (delayedOf (r .by))))
       ∙ ap₂ _&&_ (sym ea) (sym eb)
 
   pub fit-due : a ≡ true → b ≡ fits (paddingSums d now (paddingOf (Replaces r)))

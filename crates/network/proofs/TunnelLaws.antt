@@ -12,7 +12,7 @@ use Rattle.rules.specs.Basics.{Side, client, server, other, if_then_else_, Tunn
 use Rattle.rules.specs.State.{Event, SideState, State, side}
 use Rattle.rules.specs.Limits.{momentLimit, durationLimit}
 use Rattle.rules.specs.Aggregates.{aggregatesOf, onDelayed, testSums}
-use Rattle.rules.specs.ChoiceRound.{fits}
+use Rattle.rules.specs.ChoiceRound.{fits, someSum}
 use Rattle.rules.specs.NetworkStep.{evict, extraOver, packet, rateOf, reported, stamp, stepTunnel}
 use Rattle.moment.specs.declared.Length.{Length}
 use Rattle.moment.specs.declared.Moment.{Moment}
@@ -26,7 +26,7 @@ use Rattle.delay.specs.declared.Base.the-variants.{Nothing as NoBase}
 use Rattle.delay.specs.declared.Margins.{Margins}
 use Rattle.delay.specs.declared.Asked.{Asked}
 use Rattle.delay.specs.declared.Tested.{Tested}
-use Rattle.delay.specs.Tests.{delayedOf, baseOf, sumsIn, usualMargins, delayedOver, sumsOver, TestedAs, AskedAs}
+use Rattle.delay.specs.Tests.{delayedOf, baseOf, usualMargins, delayedOver, sumsOver, TestedAs, AskedAs}
 use Rattle.layout.specs.Changes.{sideNo}
 use Rattle.layout.proofs.Banks.{bank-at}
 use Rattle.delay.proofs.Rules.{delayed-usual, sums-usual}
@@ -112,7 +112,7 @@ module _ (x : SideState) (sum u : ℕ) (extra : Length) where
         ap (λ b. if b then some (extra .0) else none) (sym e ∙ ea .found ∙ ap (λ v. delayedOver v sum x u) em ∙ delayed-usual x sum u)
         ∙ sym (ap (λ b. if b && onDelayed x sum u then some (extra .0) else none) above-zero)
 
-    asked-sums : sumsIn (baseOf (a .base)) ≡ testedSums x sum u (extra .0)
+    asked-sums : someSum (baseOf (a .base)) ≡ testedSums x sum u (extra .0)
     unfolding testedSums
     asked-sums = ea .formed ∙ ap (λ v. sumsOver v sum x u) em ∙ sums-usual x sum u ∙ sym (ap (λ b. if b then testSums x sum u else []) above-zero)
 
@@ -171,7 +171,7 @@ module _ (l : Link) (s : State) (e : SimEvent) (now : ℕ) (f : Filled) (k : Lin
       by-is : delayedOf (t .by) ≡ testedBy x (s .client .sum) (e .moment .0) (extraAt s (length (evict (s .settings .window) now (x .stamps)) + 1))
       by-is = et .found ∙ ap₂ (λ a b. testedBy x a (e .moment .0) b) (k .sum) extra-is
 
-      formed-is : sumsIn (baseOf (t .base)) ≡ testedSums x (s .client .sum) (e .moment .0) (extraAt s (length (evict (s .settings .window) now (x .stamps)) + 1))
+      formed-is : someSum (baseOf (t .base)) ≡ testedSums x (s .client .sum) (e .moment .0) (extraAt s (length (evict (s .settings .window) now (x .stamps)) + 1))
       formed-is = et .formed ∙ ap₂ (λ a b. testedSums x a (e .moment .0) b) (k .sum) extra-is
 
       network-is : n ≡ extraAt s (length (evict (s .settings .window) now (x .stamps)) + 1) + s .settings .networkDelay
@@ -182,12 +182,12 @@ module _ (l : Link) (s : State) (e : SimEvent) (now : ℕ) (f : Filled) (k : Lin
 
 -- ---- fit
 
-module _ (t : Tunnel) (d now : ℕ) (z : Side) (a b c : Bool) (ea : a ≡ fits (sumsIn (baseOf (t .base)))) (eb : b ≡ fits (moments (aggregatesOf d z now (delayedOf (t .by))))) (ec : c ≡ leb (t .received .moment .0) momentLimit) where
+module _ (t : Tunnel) (d now : ℕ) (z : Side) (a b c : Bool) (ea : a ≡ fits (someSum (baseOf (t .base)))) (eb : b ≡ fits (moments (aggregatesOf d z now (delayedOf (t .by))))) (ec : c ≡ leb (t .received .moment .0) momentLimit) where
   fit-is : fits (tunnelSums d z now (tunnelOf t)) ≡ (a && b) && (c && true)
   unfolding fits
   fit-is =
-      fits-append (sumsIn (baseOf (t .base)) ++ moments (aggregatesOf d z now (delayedOf (t .by)))) (t .received .moment .0 ∷ [])
-      ∙ ap₂ _&&_ (fits-append (sumsIn (baseOf (t .base))) (moments (aggregatesOf d z now (delayedOf (t .by)))) ∙ ap₂ _&&_ (sym ea) (sym eb)) (ap (λ x. x && true) (sym ec))
+      fits-append (someSum (baseOf (t .base)) ++ moments (aggregatesOf d z now (delayedOf (t .by)))) (t .received .moment .0 ∷ [])
+      ∙ ap₂ _&&_ (fits-append (someSum (baseOf (t .base))) (moments (aggregatesOf d z now (delayedOf (t .by)))) ∙ ap₂ _&&_ (sym ea) (sym eb)) (ap (λ x. x && true) (sym ec))
 
   and-one : (x : Bool) → x && true ≡ x
   and-one true = refl

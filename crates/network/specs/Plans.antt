@@ -12,7 +12,7 @@ use Rattle.rules.specs.State.{Event, SideState, State, inRecord, side}
 use Rattle.rules.specs.Limits.{momentLimit, durationLimit, delayLimit}
 use Rattle.rules.specs.Arguments.{eventOf as handedOver}
 use Rattle.rules.specs.ChoiceHeads.{Head, waitingHead}
-use Rattle.rules.specs.ChoiceRound.{liftEvent}
+use Rattle.rules.specs.ChoiceRound.{liftEvent, someSum}
 use Rattle.rules.specs.Queueing.{pushEvent, putEvent}
 use Rattle.rules.specs.Aggregates.{addAggregates, aggregatesOf, onDelayed, onReplace, testSums}
 use Rattle.rules.specs.NetworkStep.{Stepped, packet, unmoved, asPadding, letPass, evict, extraOver, rateOf, reported, stamp}
@@ -21,7 +21,7 @@ use Rattle.event.specs.HandedIn.{eventIn}
 use Rattle.queue.specs.declared.peek.Head.{Head as HeadFound}
 use Rattle.event.specs.Values.{eventValue}
 use Rattle.queue.specs.Heads.{headFrom}
-use Rattle.delay.specs.Tests.{delayedOf, baseOf, sumsIn, without}
+use Rattle.delay.specs.Tests.{delayedOf, baseOf, without}
 use Rattle.network.specs.declared.tunnel.Tunnel.{Tunnel}
 use Rattle.network.specs.declared.tunnel.Link.{Link}
 use Rattle.network.specs.declared.padding.Padding.{Padding}
@@ -70,7 +70,7 @@ pub record TunnelPlan : Type 0 where
   pub received : Event
 
 abbrev pub tunnelOf : Tunnel → TunnelPlan
-tunnelOf t = record { stale = t .stale; by = delayedOf (t .by); formed = sumsIn (baseOf (t .base)); received = eventValue (t .received) }
+tunnelOf t = record { stale = t .stale; by = delayedOf (t .by); formed = someSum (baseOf (t .base)); received = eventValue (t .received) }
 
 -- what the window adds where it has c stamps
 abbrev pub extraAt : State → ℕ → ℕ
@@ -124,7 +124,7 @@ pub data PaddingPlan : Type 0 where
 unfoldable pub paddingOf : Padding → PaddingPlan
 paddingOf Own = own
 paddingOf Dropped = dropped
-paddingOf (Replaces r) = takes (headFrom (r .head)) (delayedOf (r .by)) (sumsIn (baseOf (r .base)))
+paddingOf (Replaces r) = takes (headFrom (r .head)) (delayedOf (r .by)) (someSum (baseOf (r .base)))
 
 -- the packet h is out of its queue at side x
 abbrev pub takesFrom : SideState → ℕ → Head → PaddingPlan

@@ -6,11 +6,11 @@ ghost use mathlib.Core.Option.{some};
 ghost use Rattle.rules.specs.Basics.{Side, client as clientSide, server as serverSide};
 ghost use Rattle.rules.specs.Limits.{momentLimit, durationLimit};
 ghost use Rattle.rules.specs.Aggregates.{addAggregates, aggregatesOf};
-ghost use Rattle.rules.specs.ChoiceRound.{fits};
+ghost use Rattle.rules.specs.ChoiceRound.{fits, someSum};
 ghost use Rattle.event.specs.HandedIn.{sideOf};
 ghost use Rattle.layout.specs.Layout.{stateOf};
 ghost use Rattle.queue.specs.Changes.{Leaves};
-ghost use Rattle.delay.specs.Tests.{delayedOf, baseOf, sumsIn};
+ghost use Rattle.delay.specs.Tests.{delayedOf, baseOf};
 ghost use Rattle.network.specs.Due.{bothOf, moments, MayAggregate};
 use delay::Base;
 use delay::Delayed;
@@ -115,7 +115,7 @@ pub fn records_for(by: Delayed) -> u64
 
 // Whether the sum that a test formed is within the limit.
 pub fn base_fits(base: Base) -> bool
-    ensures { λ r. ⌜ r ≡ fits (sumsIn (baseOf base)) ⌝ }
+    ensures { λ r. ⌜ r ≡ fits (someSum (baseOf base)) ⌝ }
 {
     let Base::At(m) = base else {
         return true;

@@ -11,7 +11,7 @@ use Rattle.rules.specs.State.{Event, State, side}
 use Rattle.rules.specs.Limits.{durationLimit}
 use Rattle.rules.specs.Aggregates.{addAggregates, aggregatesOf}
 use Rattle.rules.specs.ChoiceHeads.{Head as RulesHead, waitingHead}
-use Rattle.rules.specs.ChoiceRound.{liftEvent}
+use Rattle.rules.specs.ChoiceRound.{liftEvent, someSum}
 use Rattle.rules.specs.Queueing.{pushEvent}
 use Rattle.rules.specs.NetworkStep.{packet, stamp, stepPadding, stepTunnel}
 use Rattle.laws.specs.Heads.{HeadOf, waiting-first}
@@ -23,7 +23,7 @@ use Rattle.queue.specs.Changes.{Leaves, countIn}
 use Rattle.queue.specs.Heads.{headFrom}
 use Rattle.queue.specs.Pushes.{Canonical, MayPush}
 use Rattle.event.specs.Values.{eventValue}
-use Rattle.delay.specs.Tests.{baseOf, delayedOf, sumsIn}
+use Rattle.delay.specs.Tests.{baseOf, delayedOf}
 use Rattle.network.specs.declared.padding.Padding.{Padding}
 use Rattle.network.specs.declared.padding.Padding.the-variants.{Dropped, Own, Replaces}
 use Rattle.network.specs.declared.padding.Replaced.{Replaced}
@@ -114,7 +114,7 @@ module _ (w : List ℕ) (p : Padding) (e : SimEvent) (d now : ℕ) (may : MayPad
         }
 
   module _ (r : Replaced) (q : p ≡ Replaces r) where
-    plan-is : takes (headFrom (r .head)) (delayedOf (r .by)) (sumsIn (baseOf (r .base))) ≡ paddingPlan (stateOf w) now (paddedOf e)
+    plan-is : takes (headFrom (r .head)) (delayedOf (r .by)) (someSum (baseOf (r .base))) ≡ paddingPlan (stateOf w) now (paddedOf e)
     unfolding paddingOf
     plan-is = sym (ap paddingOf q) ∙ may .plan
 
