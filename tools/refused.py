@@ -101,8 +101,9 @@ def judged(root, logs=None):
             try:
                 edits = edits_in(path)
                 found = crate.amiss_in(edits)
-                found += [f"the crate has another edit {e.name}" for e in edits if (crate.name, e.name) in names]
-                names += [(crate.name, e.name) for e in edits]
+                for e in edits:
+                    found += [f"the crate has another edit {e.name}"] if (crate.name, e.name) in names else []
+                    names.append((crate.name, e.name))
                 if logs and not found:
                     found = amiss_in_log(edits, crate, os.path.join(logs, crate.name, label(path)))
             except Bad as e:

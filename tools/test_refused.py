@@ -1,9 +1,9 @@
 #!/usr/bin/env python3
 """test_refused.py [ROOT [LOGS]]: sees that refused.py turns the gate red where it must, over the logs of the last `rt ci`.
 
-The crate whose largest file holds the most edits is copied with its logs, as it is and with one thing wrong at a time: first a
-harmless edit among the others, whose log is that of the others, since it changes no proof. Exit 1 where a copy that is as it was
-is found amiss, or one with something wrong is not found amiss for that reason."""
+The file with the most edits is copied with its crate and its log, as it is and with one thing wrong at a time: first a harmless
+edit among the others, whose log is that of the others, since it changes no proof. Then the same with an edit of definitions. Exit 1
+where a copy that is as it was is found amiss, or one with something wrong is not found amiss for that reason."""
 import glob, os, re, shutil, sys, tempfile
 
 sys.dont_write_bytecode = True
@@ -12,20 +12,20 @@ from refused import judged
 
 
 class Trial:
-    """A copy of the crate, of its one file with several edits and of that file's log."""
+    """A copy of a crate, of one file of its edits and of that file's log."""
 
     def __init__(self, room, path, logs):
         self.root = tempfile.mkdtemp(dir=room)
         of = os.path.dirname(os.path.dirname(path))
         self.folder = os.path.join(self.root, "crates", os.path.basename(of))
-        for part in ("src", "proofs"):
-            shutil.copytree(os.path.join(of, part), os.path.join(self.folder, part))
+        for part in ("src", "specs", "proofs"):
+            if os.path.isdir(os.path.join(of, part)):
+                shutil.copytree(os.path.join(of, part), os.path.join(self.folder, part))
         os.mkdir(os.path.join(self.folder, "must-fail"))
         self.path = os.path.join(self.folder, "must-fail", os.path.basename(path))
         self.edits = edits_in(path)
         self.log = os.path.join(self.root, "logs", os.path.basename(of), label(path))
-        os.makedirs(self.log)
-        shutil.copy(os.path.join(logs, os.path.basename(of), label(path), ".log"), self.log)
+        shutil.copytree(os.path.join(logs, os.path.basename(of), label(path)), self.log)
         shutil.copy(os.path.join(logs, os.path.basename(of), label(path) + ".res"), self.log + ".res")
         self.crate = Crate(self.folder)
 
@@ -98,7 +98,8 @@ def not_admitted(t):
         f.write(text)
 
 
-CASES = [
+# what is wrong; how it is made wrong; what must be said
+OF_FUNCTIONS = [
     ("as it is", lambda t: None, None),
     ("a harmless edit of a function that stays proved", lambda t: t.harmless(True), "NOT REFUSED: harmless"),
     ("a harmless edit of a function that waits for a callee", lambda t: t.harmless(False), "NOT REFUSED: harmless"),
@@ -113,23 +114,38 @@ CASES = [
     ("no log", no_log, "no log"),
     ("not refused by rt", survived, "rt did not refuse it"),
 ]
+OF_DEFINITIONS = [
+    ("as it is", lambda t: None, None),
+    ("a misspelt case", misspelt, "NOT REFUSED"),
+    ("no case named", missing, "no line `expects:`"),
+    ("a file of edits of definitions", lambda t: t.edits.append(t.edits[0]), "so it stands alone"),
+    ("no log", no_log, "no log"),
+    ("not refused by rt", survived, "rt did not refuse it"),
+]
+
+
+def tried(room, path, logs, cases):
+    """How many of the cases do not come out as they should."""
+    wrong = 0
+    for what, spoil, reason in cases:
+        trial = Trial(room, path, logs)
+        spoil(trial)
+        found = trial.found()
+        if (reason is None) != (not found) or (reason and not any(reason in f for f in found)):
+            wrong += 1
+            print(f"test_refused.py: {label(path)}: {what}: expected {reason or 'nothing amiss'}, found {found or 'nothing amiss'}")
+    return wrong
 
 
 def main(root=".", logs=None):
     logs = logs or os.path.join(root, "target/must-fail")
-    files = glob.glob(os.path.join(root, "crates/*/must-fail/together-*.edit"))
-    largest = max(sorted(files), key=lambda path: len(edits_in(path)))
-    wrong = 0
+    files = sorted(glob.glob(os.path.join(root, "crates/*/must-fail/*.edit")))
+    largest = max(files, key=lambda path: len(edits_in(path)))
+    definitions = next(path for path in files if edits_in(path)[0].changes[0][0].startswith("specs/"))
     with tempfile.TemporaryDirectory() as room:
-        for what, spoil, reason in CASES:
-            trial = Trial(room, largest, logs)
-            spoil(trial)
-            found = trial.found()
-            if (reason is None) != (not found) or (reason and not any(reason in f for f in found)):
-                wrong += 1
-                print(f"test_refused.py: {what}: expected {reason or 'nothing amiss'}, found {found or 'nothing amiss'}")
+        wrong = tried(room, largest, logs, OF_FUNCTIONS) + tried(room, definitions, logs, OF_DEFINITIONS)
     if not wrong:
-        print(f"{len(CASES)} trials of refused.py: red in each that has something wrong")
+        print(f"{len(OF_FUNCTIONS + OF_DEFINITIONS)} trials of refused.py: red in each that has something wrong")
     return 1 if wrong else 0
 
 
