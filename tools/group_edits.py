@@ -17,10 +17,18 @@ def place(path):
     return (0, int(number[1]), "") if number else (1, 0, label(path))
 
 
+def edits_of(crate):
+    for path in sorted(crate.edit_files(), key=place):
+        try:
+            yield from edits_in(path)
+        except Bad as e:
+            raise Bad(f"{crate.name}/{label(path)}: {e}")
+
+
 def grouped(crate):
     """FILE -> its edits."""
     groups, files = [], {}
-    for e in [e for path in sorted(crate.edit_files(), key=place) for e in edits_in(path)]:
+    for e in edits_of(crate):
         changed = crate.changed_by(e)
         if changed and len(changed) == 1 and not e.expects:
             (e.expects,) = changed
