@@ -20,21 +20,21 @@ limits =
 abbrev pub Limited : List ℕ → Type 0
 Limited h = (i : ℕ) → i < 18 → getD h i 0 ≤ getD limits i 0
 
--- "8 + side: machines of the side"
+-- "8 + side | machines of the side"
 abbrev pub machinesOf : List ℕ → ℕ → ℕ
 machinesOf h side = getD h (8 + side) 0
 
--- "12 + side: 0 where the side has no block, else the block's end + 1"
+-- "12 + side | 0 where the side has no block, else the block's end + 1"
 abbrev pub blockOf : List ℕ → ℕ → ℕ
 blockOf h side = getD h (12 + side) 0
 
 -- ---- slots, 16 for each side: slot j is that of machine j % 16 of side j / 16
 
--- "64 + 16 side + m: timer of machine m: 0 for none, else its moment + 1"
+-- "64 + 16 side + m | timer of machine m: 0 for none, else its moment + 1"
 abbrev pub timerOf : List ℕ → ℕ → ℕ
 timerOf h j = getD h (64 + j) 0
 
--- "96 + 3 (16 side + m), and the two words after it: action of machine m: kind and flags; moment; duration"
+-- "96 + 3 (16 side + m), and the two words after it | action of machine m: kind and flags; moment; duration"
 abbrev pub actionOf : List ℕ → ℕ → ℕ
 actionOf h j = getD h (96 + 3 * j) 0
 
@@ -44,8 +44,8 @@ actionMoment h j = getD h (97 + 3 * j) 0
 abbrev pub actionDuration : List ℕ → ℕ → ℕ
 actionDuration h j = getD h (98 + 3 * j) 0
 
--- "An action's first word is kind + 4 bypass + 8 replace, with kind 1 for `SendPadding` and 2 for `BlockOutgoing`. An empty slot is three zero words. A
--- `SendPadding` has duration 0."
+-- "An action's first word is kind + 4 bypass + 8 replace, with kind 1 for `SendPadding` and 2 for `BlockOutgoing` [..] An empty slot is three zero words.
+-- A `SendPadding` has duration 0."
 pub record ActionOk (word moment duration : ℕ) : Type 0 where
   pub flags : word ≤ 15
   pub moments : moment ≤ momentLimit

@@ -78,7 +78,7 @@ placeOf x = x .at
 unfoldable pub bank : ℕ → ℕ → List ℕ → ℕ → ℕ
 bank b n h i = if ltb i n then getD h (b + i) 0 else 0
 
--- "24 + 2k, 25 + 2k: head and count of chain k": what chain k holds, from its head; nothing past the last chain
+-- "24 + 2k, 25 + 2k | head and count of chain k": what chain k holds, from its head; nothing past the last chain
 unfoldable pub chains : List ℕ → List ℕ → ℕ → List Node
 chains h rs k = if ltb k chainCount then nodes rs (countOf h k) (headOf h k) else []
 
@@ -89,16 +89,17 @@ firsts (suc n) f = f 0 ∷ firsts n (λ (i : ℕ). f (suc i))
 
 -- ---- the state: from the words 0 to 23, the timers', the actions', the chains and R
 
--- "64 + 16 side + m: timer of machine m"
+-- "64 + 16 side + m | timer of machine m"
 abbrev pub timersFrom : ℕ → (ℕ → ℕ) → List (Option ℕ)
 timersFrom n t = firsts 16 (λ (m : ℕ). lessOne (t (16 * n + m)))
 
--- "96 + 3 (16 side + m), and the two words after it: action of machine m"
+-- "96 + 3 (16 side + m), and the two words after it | action of machine m"
 abbrev pub actionsFrom : ℕ → (ℕ → ℕ) → List (Option Action)
 actionsFrom n a = firsts 16 (λ (m : ℕ). actionFrom (a (3 * (16 * n + m))) (a (1 + 3 * (16 * n + m))) (a (2 + 3 * (16 * n + m))))
 
--- side z, of number n: "4 + side action delay, 6 + side reporting delay, 8 + side machines of the side, 10 + side sum of the side, 12 + side the block's end + 1,
--- 14 + side bypassable flag"; "1, 2, 3, 4, 5: client base, blocking, bypassable, internal, stamps; 6, 7, 8, 9, 10: server ..". Sixteen slots each
+-- side z, of number n: "4 + side | action delay", "6 + side | reporting delay", "8 + side | machines of the side", "10 + side | sum of the side", "12 + side |
+-- 0 where the side has no block, else the block's end + 1", "14 + side | bypassable flag"; of the chains "1, 2, 3, 4, 5 | client base, blocking, bypassable,
+-- internal, stamps", "6, 7, 8, 9, 10 | server base, blocking, bypassable, internal, stamps". Sixteen slots each
 abbrev pub sideFrom : Side → ℕ → (ℕ → ℕ) → (ℕ → ℕ) → (ℕ → ℕ) → (ℕ → List Node) → SideState
 sideFrom z n f t a c =
     record {
@@ -118,7 +119,8 @@ sideFrom z n f t a c =
       actions = actionsFrom n a;
     }
 
--- "0 network delay, 1 network rate, 2 queue rate, 3 window, 16 ended mark, 17 round total", chain "11 pending aggregates", "0 free records"
+-- "0 | network delay", "1 | network rate", "2 | queue rate", "3 | window", "16 | ended mark", "17 | round total"; of the chains "11 | pending aggregates" and
+-- "0 | free records"
 abbrev pub build : (ℕ → ℕ) → (ℕ → ℕ) → (ℕ → ℕ) → (ℕ → List Node) → ℕ → State
 build f t a c r =
     record {

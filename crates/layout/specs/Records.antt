@@ -15,7 +15,7 @@ use Rattle.layout.specs.Header.{machinesOf}
 abbrev pub chainCount : ℕ
 chainCount = 12
 
--- "24 + 2k, 25 + 2k: head and count of chain k"
+-- "24 + 2k, 25 + 2k | head and count of chain k"
 abbrev pub headOf : List ℕ → ℕ → ℕ
 headOf h k = getD h (24 + 2 * k) 0
 
@@ -51,7 +51,7 @@ pub record KindOk (place kind flag : ℕ) : Type 0 where
   pub bypass : 1 < place → place < 4 → flag ≡ place - 2
   pub internal : 3 < place → 1 < kind
 
--- an event of a side with so many machines: moment and delay within their limits; "its side field and everything from 65,536 up are 0"
+-- an event of a side with so many machines: moment and delay within their limits; "an event's tag is below 65,536 and has side 0"
 pub record EventOk (place machines moment span tag : ℕ) : Type 0 where
   pub moments : moment ≤ momentLimit
   pub spans : span ≤ delayLimit
@@ -60,7 +60,7 @@ pub record EventOk (place machines moment span tag : ℕ) : Type 0 where
   pub kind : KindOk place (kindField tag) (bypassField tag)
   pub machine : MachineOk (kindField tag) machines (machineField tag)
 
--- "an aggregate's tag is 11 or 2,059", its "length at most L"
+-- "an aggregate's tag is 11 or 2,059"; moment and length within their limits
 pub record AggregateOk (moment span tag : ℕ) : Type 0 where
   pub moments : moment ≤ momentLimit
   pub spans : span ≤ momentLimit
@@ -73,8 +73,8 @@ pub record StampOk (moment span tag : ℕ) : Type 0 where
   pub spans : span ≡ 0
   pub rest : tag < 16
 
--- a record of chain k, whose side has so many machines: 0 free, 5 and 10 stamps, 11 aggregates, else events. "Of a free record only next and tag % 16 = 0
--- are held to anything"
+-- a record of chain k, whose side has so many machines: 0 free, 5 and 10 stamps, 11 aggregates, else events. "Of a free record only next and
+-- chain number 0 mean anything"
 pub record RecordOk (k machines moment span tag : ℕ) : Type 0 where
   pub chain : markOf tag ≡ k
   pub event : 0 < k % 5 → k < 11 → EventOk (k % 5) machines moment span tag
@@ -83,7 +83,7 @@ pub record RecordOk (k machines moment span tag : ℕ) : Type 0 where
 
 -- ---- one record after another
 
--- "event chains do not fall in (moment, rank), aggregates do not fall in moment; stamps have no order", and free records have none. An aggregate's rank is 0
+-- "event chains do not fall in (moment, rank), aggregates do not fall in moment; stamps have no order by moment", and free records have none. An aggregate's rank is 0
 pub record Follows (k last-moment last-rank moment rank : ℕ) : Type 0 where
   pub moments : 0 < k % 5 → last-moment ≤ moment
   pub ranks : 0 < k % 5 → last-moment ≡ moment → last-rank ≤ rank
@@ -103,8 +103,8 @@ Ordered k m r (x ∷ xs) = Follows k m r (x .rec .moment) (kindField (x .rec .ta
 abbrev pub chainAt : List ℕ → List ℕ → ℕ → List Node
 chainAt h rs k = nodes rs (countOf h k) (headOf h k)
 
--- "each chain has count records before next 0, every one of them in 1 to R and of its chain's number", its records are its own and in order. "A count is
--- held against R before counts are added"
+-- "each chain has count records before next 0, every one of them in 1 to R and of its chain's number", its records are its own and in order. A
+-- count is held against R before its chain is walked
 pub record ChainOk (h rs : List ℕ) (k : ℕ) : Type 0 where
   pub count : countOf h k ≤ length rs / 4
   pub links : Linked rs k (countOf h k) (headOf h k)

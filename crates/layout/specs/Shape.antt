@@ -13,8 +13,8 @@ use Rattle.layout.specs.Accepted.{SizeOk, room}
 
 -- ---- the header
 
--- an action's three words: "kind + 4 bypass + 8 replace, with kind 1 for `SendPadding` and 2 for `BlockOutgoing`. An empty slot is three zero words. A
--- `SendPadding` has duration 0."
+-- an action's three words: "kind + 4 bypass + 8 replace, with kind 1 for `SendPadding` and 2 for `BlockOutgoing` [..] An empty slot is three zero words.
+-- A `SendPadding` has duration 0."
 pub record ActionShape (word moment duration : ℕ) : Type 0 where
   pub flags : word ≤ 15
   pub kind : word % 4 ≡ 3 → ⊥

@@ -17,7 +17,7 @@ use Rattle.layout.specs.Accepted.{SizeOk}
 use Rattle.layout.specs.Opened.{firstWords, headWord, openedWords, recordWord}
 use Rattle.layout.proofs.Parts.{rest-part}
 use Rattle.layout.proofs.Tables.{list-past, opened-is}
-use Rattle.simulator.specs.Openings.{AllZero, Chained, Cleared, putHead, putSettings}
+use Rattle.simulator.specs.OpeningParts.{AllZero, Chained, Cleared, putHead, putSettings}
 use Rattle.simulator.proofs.Reading.{same-ltb}
 
 -- ---- clearing

@@ -3,5 +3,6 @@ pub mod Numbers
 pub mod Kept
 pub mod Demand
 pub mod Openings
+pub mod OpeningParts
 pub mod StepNumbers
 pub mod Does

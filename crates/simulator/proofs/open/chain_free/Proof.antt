@@ -1,5 +1,5 @@
 -- `simulator::open::chain_free` meets its contract. Assumes nothing.
-use Rattle.simulator.specs.Openings.{Chained}
+use Rattle.simulator.specs.OpeningParts.{Chained}
 use Prim.Native.Nat.{_-_}
 use native.Mathlib.Omega.{arith}
 use borrow.Author.Needs.{needs}

@@ -1,5 +1,5 @@
 -- `simulator::open::clear` meets its contract. Assumes nothing.
-use Rattle.simulator.specs.Openings.{Cleared}
+use Rattle.simulator.specs.OpeningParts.{Cleared}
 use Prim.Native.Nat.{_-_}
 use mathlib.Core.Path.{refl}
 use native.Mathlib.Omega.{arith}
