@@ -25,11 +25,6 @@ pub record Edges : Type 0 where
       ≡ seen (done ∷ event (plain BlockingBegin 100 client 0) 2 ∷ done ∷ done ∷ done ∷ event (plain BlockingEnd 2_000_100 client 0) 1 ∷ []) (aggregate 2_000_100 1_999_950 client ∷ aggregate 2_000_100 1_999_950 server ∷ []) [] false
   -- ---- three packets for the tail scan
 
-  -- two wait: the head is the tail, no scan
-  pub two-wait :
-      ran (openWith 0 none 1_000_000_000)
-      (setBlock client 100 1000 ∷ pick-next 100 ∷ push (handedIn 0 100 client) ∷ push (handedIn 0 160 client) ∷ pick-next 100 ∷ [])
-      ≡ seen (done ∷ event (plain BlockingBegin 100 client 0) 2 ∷ done ∷ done ∷ event (plain BlockingEnd 1100 client 0) 1 ∷ []) (aggregate 1100 1000 client ∷ aggregate 1100 1000 server ∷ []) [] false
   -- three wait: the last is the tail
   pub three-wait :
       ran (openWith 0 none 1_000_000_000)
@@ -150,11 +145,6 @@ pub record Edges : Type 0 where
       ran (openWith 0 none 1_000_000_000)
       (setBlock client 100 50 ∷ pick-next 100 ∷ push (handedIn 0 110 client) ∷ push (handedIn 0 120 client) ∷ push (handedIn 0 150 client) ∷ pick-next 100 ∷ [])
       ≡ seen (done ∷ event (plain BlockingBegin 100 client 0) 2 ∷ done ∷ done ∷ done ∷ event (plain BlockingEnd 150 client 0) 1 ∷ []) [] [] false
-  -- three packets, the tail 1 ns after the end: two aggregates of length 0
-  pub tail-past-end :
-      ran (openWith 20 none 1_000_000_000)
-      (setBlock client 100 50 ∷ pick-next 100 ∷ push (handedIn 0 110 client) ∷ push (handedIn 0 120 client) ∷ push (handedIn 0 151 client) ∷ pick-next 100 ∷ [])
-      ≡ seen (done ∷ event (plain BlockingBegin 100 client 0) 2 ∷ done ∷ done ∷ done ∷ event (plain BlockingEnd 150 client 0) 1 ∷ []) (aggregate 210 0 server ∷ aggregate 230 0 client ∷ []) [] false
   -- ---- stamps and the packet limit
 
   -- rate 2, window 10: count 2 adds nothing, count 3 adds 5, count 4 adds 10
@@ -238,7 +228,6 @@ unfolding rules
 edges = record {
   buffer-at = refl;
   buffer-past = refl;
-  two-wait = refl;
   three-wait = refl;
   expire-base-at = refl;
   expire-base-past = refl;
@@ -261,7 +250,6 @@ edges = record {
   server-4D-at = refl;
   server-4D-past = refl;
   tail-at-end = refl;
-  tail-past-end = refl;
   rate-edge = refl;
   no-extra = refl;
   some-extra = refl;
