@@ -12,7 +12,7 @@ use Rattle.rules.specs.Basics.{if_then_else_}
 use Rattle.rules.specs.Limits.{momentLimit, durationLimit}
 use Rattle.rules.specs.Aggregates.{baseMoment, onExpire, aggregatesOf}
 use Rattle.rules.specs.ChoiceHeads.{waitingHead}
-use Rattle.rules.specs.ChoiceRound.{fits, someSum, alwaysSums, candidateSums, raisedSum, heldUp, aBlock}
+use Rattle.rules.specs.ChoiceRound.{fits, someSum, alwaysSums, candidateSums, raisedSum, heldUpLength, aBlock}
 use Rattle.event.specs.declared.AggregateDelay.{AggregateDelay}
 use Rattle.event.specs.HandedIn.{sideOf, aggregateIn}
 use Rattle.layout.specs.Header.{Limited}
@@ -89,20 +89,20 @@ module _ (h rs : List ℕ) (limit : ℕ) (el : limit ≡ momentLimit) where
 -- ---- the test at a block's end
 
 module _ (h rs : List ℕ) (b : Bool) (end : ℕ) (f : Found) (p : Peeked h rs b f (waitingHead false (sideHeld h rs b))) where
-  pub held-none : f ≡ NotFound → none ≡ heldUp (sideHeld h rs b) end (waitingHead false (sideHeld h rs b))
+  pub held-none : f ≡ NotFound → none ≡ heldUpLength (sideHeld h rs b) end (waitingHead false (sideHeld h rs b))
   unfolding foundOf
-  held-none e = ap (heldUp (sideHeld h rs b) end) (ap foundOf (sym e) ∙ p .is)
+  held-none e = ap (heldUpLength (sideHeld h rs b) end) (ap foundOf (sym e) ∙ p .is)
 
   module _ (w : Head) (r : Bool) (e : f ≡ FoundAt w) (er : r ≡ ltb (w .moment .0) end) where
-    held-is : (if r then onExpire (sideHeld h rs b) end (w .moment .0) else none) ≡ heldUp (sideHeld h rs b) end (waitingHead false (sideHeld h rs b))
+    held-is : (if r then onExpire (sideHeld h rs b) end (w .moment .0) else none) ≡ heldUpLength (sideHeld h rs b) end (waitingHead false (sideHeld h rs b))
     unfolding foundOf headFrom
-    held-is = ap (λ (x : Bool). if x then onExpire (sideHeld h rs b) end (w .moment .0) else none) er ∙ ap (heldUp (sideHeld h rs b) end) (ap foundOf (sym e) ∙ p .is)
+    held-is = ap (λ (x : Bool). if x then onExpire (sideHeld h rs b) end (w .moment .0) else none) er ∙ ap (heldUpLength (sideHeld h rs b) end) (ap foundOf (sym e) ∙ p .is)
 
-    pub held-late : not r ≡ true → none ≡ heldUp (sideHeld h rs b) end (waitingHead false (sideHeld h rs b))
+    pub held-late : not r ≡ true → none ≡ heldUpLength (sideHeld h rs b) end (waitingHead false (sideHeld h rs b))
     held-late t = sym (ap (λ (x : Bool). if x then onExpire (sideHeld h rs b) end (w .moment .0) else none) (not-true r t)) ∙ held-is
 
     pub held-by : (sum : ℕ) (m : Margins) (d : Delayed) → not r ≡ false → sum ≡ getD h (10 + sideNo (sideOf b)) 0 → m ≡ usualMargins
-        → delayedOf d ≡ expireOver m sum (sideHeld h rs b) end (w .moment .0) → delayedOf d ≡ heldUp (sideHeld h rs b) end (waitingHead false (sideHeld h rs b))
+        → delayedOf d ≡ expireOver m sum (sideHeld h rs b) end (w .moment .0) → delayedOf d ≡ heldUpLength (sideHeld h rs b) end (waitingHead false (sideHeld h rs b))
     held-by sum m d t es em ed =
         ed ∙ ap₂ (λ (x : Margins) (n : ℕ). expireOver x n (sideHeld h rs b) end (w .moment .0)) em (es ∙ sym (sum-held h rs (sideOf b)))
         ∙ expire-usual (sideHeld h rs b) end (w .moment .0)
@@ -150,7 +150,7 @@ dueAt h rs t k =
     (stateFrom h rs .settings .networkDelay)
     (sideOf (k .client))
     (t + (k .end .0 - t))
-    (heldUp (sideHeld h rs (k .client)) (t + (k .end .0 - t)) (waitingHead false (sideHeld h rs (k .client)))))
+    (heldUpLength (sideHeld h rs (k .client)) (t + (k .end .0 - t)) (waitingHead false (sideHeld h rs (k .client)))))
 
 module _ (h rs : List ℕ) (t : ℕ) (k : BlockEnd) (end : ℕ) (ee : end ≡ max (k .end .0) t) where
   pub end-within : Good h rs → t ≤ momentLimit → sideHeld h rs (k .client) .blockEnd ≡ some (k .end .0) → end ≤ momentLimit
@@ -173,12 +173,12 @@ module _ (h rs : List ℕ) (t : ℕ) (k : BlockEnd) (end : ℕ) (ee : end ≡ ma
       unfolding fits
       block-late f = sym (ap (λ (b : Bool). b && fits (dueAt h rs t k)) (sent ∙ not-true x f))
 
-      pub block-due : (d : Delayed) (r : Bool) → not x ≡ false → delayedOf d ≡ heldUp (sideHeld h rs (k .client)) end (waitingHead false (sideHeld h rs (k .client)))
+      pub block-due : (d : Delayed) (r : Bool) → not x ≡ false → delayedOf d ≡ heldUpLength (sideHeld h rs (k .client)) end (waitingHead false (sideHeld h rs (k .client)))
           → r ≡ fits (moments (aggregatesOf (getD h 0 0) (sideOf (k .client)) end (delayedOf d))) → r ≡ fits (candidateSums (stateFrom h rs) t (aBlock (blockFrom k)))
       unfolding fits
       block-due d r f ed er =
           er ∙ (λ i. fits (moments (aggregatesOf (sym (network-held h rs) i) (sideOf (k .client)) (late i) (due i))))
           ∙ sym (ap (λ (b : Bool). b && fits (dueAt h rs t k)) (sent ∙ not-false x f))
         where
-          due : delayedOf d ≡ heldUp (sideHeld h rs (k .client)) (t + (k .end .0 - t)) (waitingHead false (sideHeld h rs (k .client)))
-          due = ed ∙ ap (λ i. heldUp (sideHeld h rs (k .client)) i (waitingHead false (sideHeld h rs (k .client)))) late
+          due : delayedOf d ≡ heldUpLength (sideHeld h rs (k .client)) (t + (k .end .0 - t)) (waitingHead false (sideHeld h rs (k .client)))
+          due = ed ∙ ap (λ i. heldUpLength (sideHeld h rs (k .client)) i (waitingHead false (sideHeld h rs (k .client)))) late

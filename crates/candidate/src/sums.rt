@@ -8,7 +8,7 @@ ghost use lib.ListN.{length};
 ghost use Rattle.rules.specs.Limits.{momentLimit, durationLimit};
 ghost use Rattle.rules.specs.Aggregates.{baseMoment};
 ghost use Rattle.rules.specs.ChoiceHeads.{waitingHead};
-ghost use Rattle.rules.specs.ChoiceRound.{fits, someSum, alwaysSums, candidateSums, raisedSum, actionSums, heldUp, aBlock};
+ghost use Rattle.rules.specs.ChoiceRound.{fits, someSum, alwaysSums, candidateSums, raisedSum, actionSums, heldUpLength, aBlock};
 ghost use Rattle.event.specs.HandedIn.{aggregateIn};
 ghost use Rattle.layout.specs.Accepted.{Good};
 ghost use Rattle.layout.specs.Header.{Limited};
@@ -57,7 +57,7 @@ pub fn always_fits(head: &[u64], rest: &[u64]) -> bool
 // What the test at a block's end finds.
 pub fn held_up(head: &[u64], rest: &[u64], client: bool, end: Moment) -> Delayed
     requires { ⌜ length (now head) ≡ 256 ⌝ ∗ ⌜ Good (now head) (now rest) ⌝ }
-    ensures { λ r. ⌜ delayedOf r ≡ heldUp (sideHeld (now (head .entry)) (now (rest .entry)) client) (end .0) (waitingHead no (sideHeld (now (head .entry)) (now (rest .entry)) client)) ⌝ }
+    ensures { λ r. ⌜ delayedOf r ≡ heldUpLength (sideHeld (now (head .entry)) (now (rest .entry)) client) (end .0) (waitingHead no (sideHeld (now (head .entry)) (now (rest .entry)) client)) ⌝ }
 {
     let waiting = peek::peek_blocking(head, rest, false, client);
     let Found::At(h) = waiting else {

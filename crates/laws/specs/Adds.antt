@@ -11,7 +11,7 @@ use Rattle.rules.specs.ChoiceHeads.{Head, waitingHead}
 use Rattle.rules.specs.Queueing.{putEvent, pushEvent}
 use Rattle.rules.specs.Aggregates.{addAggregates}
 use Rattle.rules.specs.ChoiceRound.{Slot, liftEvent}
-use Rattle.rules.specs.NetworkStep.{Stepped, stamp, stamped, step, stepTunnel, stepPadding, replaceBy, replacing, asPadding}
+use Rattle.rules.specs.NetworkStep.{Stepped, stamp, stamped, stepFor, stepTunnel, stepPadding, replaceBy, replacing, asPadding}
 use Rattle.rules.specs.Arguments.{EventIn, ActionIn, eventOf, actionOf}
 use Rattle.rules.specs.Effects.{afterPush, afterSetAction, afterStep, setTimer}
 use Rattle.laws.specs.Branches.{by-if}
@@ -113,8 +113,8 @@ padding-adds s now e =
     (own-adds s e)
 
 -- a step, kind by kind
-pub step-adds : (s : State) (now : ℕ) (e : Event) (k : Kind) → Adds s (step s now e k .state) 2
-unfolding step
+pub step-adds : (s : State) (now : ℕ) (e : Event) (k : Kind) → Adds s (stepFor k s now e .state) 2
+unfolding stepFor
 step-adds s now e TunnelSent = tunnel-adds s now e
 step-adds s now e NormalSent = push-adds s s _ 2 (nothing-added s 2)
 step-adds s now e PaddingSent = padding-adds s now e

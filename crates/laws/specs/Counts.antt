@@ -38,7 +38,7 @@ aggregates-with s server x = refl
 -- A + 3B + T + 4S is the aggregates and what is reserved
 pub roundsLeft-is : (s : State) → roundsLeft s ≡ length (s .aggregates) + reserved s
 unfolding roundsLeft reserved
-roundsLeft-is s = refl
+roundsLeft-is s = omega arith
 
 -- ---- queueing an event takes one record
 

@@ -13,7 +13,7 @@ use Rattle.rules.specs.ChoiceHeads.{Head}
 use Rattle.rules.specs.Queueing.{insert, pushSide, putEvent, pushEvent, chainOf}
 use Rattle.rules.specs.Aggregates.{insertAggregate, addAggregate, addAggregates}
 use Rattle.rules.specs.ChoiceRound.{popSide, liftEvent, takeEvent}
-use Rattle.rules.specs.NetworkStep.{evict, evicted, stamped, stamp}
+use Rattle.rules.specs.NetworkStep.{stampsKept, freeWithEvicted, stamped, stamp}
 use Rattle.laws.specs.Branches.{by-if}
 use Rattle.laws.specs.Heads.{HeadOf}
 
@@ -207,20 +207,20 @@ weigh-append w [] m = omega arith
 weigh-append w (x ∷ l) m = omega (arith, weigh-append w l m)
 
 -- the stamps that go and their records
-pub weigh-evict : (w : ℕ → ℕ) (n now : ℕ) (l : List (Held ℕ)) (f : List ℕ) → weighList w (evict n now l) + weighFree w (evicted n now l f) ≡ weighList w l + weighFree w f
+pub weigh-evict : (w : ℕ → ℕ) (n now : ℕ) (l : List (Held ℕ)) (f : List ℕ) → weighList w (stampsKept n now l) + weighFree w (freeWithEvicted n now l f) ≡ weighList w l + weighFree w f
 weigh-evict w n now [] f = refl
 weigh-evict w n now (t ∷ l) f = go (ltb n (now - t .value)) (weigh-evict w n now l (t .place ∷ f))
   where
     go :
-        (b : Bool) → weighList w (evict n now l) + weighFree w (evicted n now l (t .place ∷ f)) ≡ weighList w l + (w (t .place) + weighFree w f)
-        → weighList w (if b then evict n now l else t ∷ l) + weighFree w (if b then evicted n now l (t .place ∷ f) else f)
+        (b : Bool) → weighList w (stampsKept n now l) + weighFree w (freeWithEvicted n now l (t .place ∷ f)) ≡ weighList w l + (w (t .place) + weighFree w f)
+        → weighList w (if b then stampsKept n now l else t ∷ l) + weighFree w (if b then freeWithEvicted n now l (t .place ∷ f) else f)
         ≡ (w (t .place) + weighList w l) + weighFree w f
     go true ih = omega arith
     go false ih = refl
 
 -- the free records once the old stamps of the side are given back
 abbrev pub freed : State → Side → ℕ → List ℕ
-freed s z now = evicted (s .settings .window) now (side s z .stamps) (s .free)
+freed s z now = freeWithEvicted (s .settings .window) now (side s z .stamps) (s .free)
 
 -- where a record is free once the old stamps are given back
 pub stamp-same : (s : State) (z : Side) (now : ℕ) → 0 < length (freed s z now) → Same s (stamp s z now)
@@ -231,4 +231,4 @@ stamp-same s z now h = λ w.
     let f : List ℕ = freed s z now in
     let v : Held ℕ = inRecord (freePlace f) now in
     let y : SideState = withStamps x (stamped n now (x .stamps) (s .free)) in
-    omega (arith, weigh-free w (withSide s z y) (tail f), ap (weighFree w) (free-with s z y), weigh-with w s z y, weigh-append w (evict n now (x .stamps)) (v ∷ []), weigh-evict w n now (x .stamps) (s .free), first-free w f h)
+    omega (arith, weigh-free w (withSide s z y) (tail f), ap (weighFree w) (free-with s z y), weigh-with w s z y, weigh-append w (stampsKept n now (x .stamps)) (v ∷ []), weigh-evict w n now (x .stamps) (s .free), first-free w f h)

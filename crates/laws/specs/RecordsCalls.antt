@@ -15,7 +15,7 @@ use Rattle.rules.specs.Queueing.{putEvent, pushEvent}
 use Rattle.rules.specs.Aggregates.{addAggregates}
 use Rattle.rules.specs.ChoiceRound.{Slot, liftEvent, noTimer, clearTimer, noAction, clearAction, fits}
 use Rattle.rules.specs.Choice.{Called}
-use Rattle.rules.specs.NetworkStep.{Stepped, asPadding, letPass, replaceBy, replacing, stepPadding, evict, evicted, stamp, stepTunnel, step}
+use Rattle.rules.specs.NetworkStep.{Stepped, asPadding, letPass, replaceBy, replacing, stepPadding, stampsKept, freeWithEvicted, stamp, stepTunnel, stepFor}
 use Rattle.rules.specs.Arguments.{Call, EventIn, ActionIn, push, set-action, clear-action, set-timer, clear-timer, pick-next, sim-network-stack, eventOf, actionOf, actionKindOf}
 use Rattle.rules.specs.Effects.{afterPush, setTimer, afterSetAction, afterStep}
 use Rattle.rules.specs.Refusals.{full, table, refusal}
@@ -73,9 +73,9 @@ padding-fitting s now e h =
     (own-fitting s e)
 
 -- old stamps given back: as many free records more as stamps fewer
-evict-count : (n now : ℕ) (l : List (Held ℕ)) (f : List ℕ) → length (evict n now l) + length (evicted n now l f) ≡ length l + length f
+evict-count : (n now : ℕ) (l : List (Held ℕ)) (f : List ℕ) → length (stampsKept n now l) + length (freeWithEvicted n now l f) ≡ length l + length f
 evict-count n now l f =
-    omega (arith, weigh-evict (λ (p : ℕ). 1) n now l f, ones-list l, ones-free f, ones-list (evict n now l), ones-free (evicted n now l f))
+    omega (arith, weigh-evict (λ (p : ℕ). 1) n now l f, ones-list l, ones-free f, ones-list (stampsKept n now l), ones-free (freeWithEvicted n now l f))
 
 -- a stamp takes one record of those that are free once the old ones are given back
 stamp-count : (s : State) (z : Side) (now : ℕ) → used (stamp s z now) + length (freed s z now) ≡ suc (records s)
@@ -83,11 +83,11 @@ unfolding stamp used
 stamp-count s client now =
     let n : ℕ = s .settings .window in
     let l : List (Held ℕ) = s .client .stamps in
-    omega (arith, evict-count n now l (s .free), length-append (evict n now l) (inRecord (freePlace (freed s client now)) now ∷ []))
+    omega (arith, evict-count n now l (s .free), length-append (stampsKept n now l) (inRecord (freePlace (freed s client now)) now ∷ []))
 stamp-count s server now =
     let n : ℕ = s .settings .window in
     let l : List (Held ℕ) = s .server .stamps in
-    omega (arith, evict-count n now l (s .free), length-append (evict n now l) (inRecord (freePlace (freed s server now)) now ∷ []))
+    omega (arith, evict-count n now l (s .free), length-append (stampsKept n now l) (inRecord (freePlace (freed s server now)) now ∷ []))
 
 tunnel-fitting : (s : State) (now : ℕ) (e : Event) → Fitting s (stepTunnel s now e .state)
 unfolding stepTunnel
@@ -100,8 +100,8 @@ tunnel-fitting s now e = go _ _
         let a : Same s t = stamp-same s (e .side) now (omega (arith, stamp-count s (e .side) now)) in
         push-fitting s (addAggregates t new) v (add-fitting s t new a (omega (arith, used-add t new))) g
 
-step-fitting : (s : State) (now : ℕ) (e : Event) (k : Kind) → Sound s → Fitting s (step s now e k .state)
-unfolding step
+step-fitting : (s : State) (now : ℕ) (e : Event) (k : Kind) → Sound s → Fitting s (stepFor k s now e .state)
+unfolding stepFor
 step-fitting s now e TunnelSent h = tunnel-fitting s now e
 step-fitting s now e NormalSent h = push-fitting s s _ (λ w. refl)
 step-fitting s now e PaddingSent h = padding-fitting s now e h
@@ -124,7 +124,7 @@ after-push-same s r (some k) h f =
 after-step-same : (s : State) (now : ℕ) (r : EventIn) (k : Option Kind) → Sound s → Whole s → full (afterStep s now r k .state) ≡ false → Same s (afterStep s now r k .state)
 after-step-same s now r none q h f = λ w. refl
 after-step-same s now r (some k) q h f =
-    let t : State = step s now (eventOf r k) k .state in
+    let t : State = stepFor k s now (eventOf r k) .state in
     let m : t .room ≡ s .room = step-adds s now (eventOf r k) k .steady .room in
     step-fitting s now (eventOf r k) k q (omega (arith, not-full t f))
 

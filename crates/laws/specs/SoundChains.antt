@@ -12,7 +12,7 @@ use Rattle.rules.specs.Limits.{momentLimit}
 use Rattle.rules.specs.ChoiceHeads.{Head}
 use Rattle.rules.specs.Queueing.{chainOf, insert, pushSide, putEvent, pushEvent}
 use Rattle.rules.specs.Aggregates.{onExpire, aggregatesOf, insertAggregate, addAggregate, addAggregates, burstTail, within, baseWindow, baseMoment}
-use Rattle.rules.specs.ChoiceRound.{takeAggregate, raisedSum, heldUp, liftEvent, takeEvent, popSide}
+use Rattle.rules.specs.ChoiceRound.{takeAggregate, raisedSum, heldUpLength, liftEvent, takeEvent, popSide}
 use Rattle.laws.specs.Branches.{by-if}
 use Rattle.laws.specs.Fits.{All, all-tail}
 use Rattle.laws.specs.Order.{eventBefore, aggregateBefore, order-tail, insert-in-order, order-insertAggregate}
@@ -176,7 +176,7 @@ expire-le x end u =
     (by-if (AtMost end) (within baseWindow u (baseMoment (x .sum) (x .queues .base))) tt (omega arith))
 
 -- the length that a block's end is tested for
-pub held-le : (x : SideState) (end : ℕ) (o : Option Head) → AtMost end (heldUp x end o)
+pub held-le : (x : SideState) (end : ℕ) (o : Option Head) → AtMost end (heldUpLength x end o)
 held-le x end none = tt
 held-le x end (some g) = by-if (AtMost end) (ltb (g .moment) end) (expire-le x end (g .moment)) tt
 

@@ -15,7 +15,7 @@ use Rattle.rules.specs.ChoiceHeads.{Head, waitingHead}
 use Rattle.rules.specs.Queueing.{putEvent, chainOf}
 use Rattle.rules.specs.Aggregates.{onReplace, onDelayed, testSums, aggregatesOf, addAggregates, anyWithin, adjacentWindow, waiting, within, baseWindow, baseMoment}
 use Rattle.rules.specs.ChoiceRound.{liftEvent, popSide}
-use Rattle.rules.specs.NetworkStep.{Stepped, step, stepTunnel, stepPadding, replaceBy, replacing, asPadding, packet, letPass, evict, evicted, stamped, stamp, extraOver, rateOf, reported}
+use Rattle.rules.specs.NetworkStep.{Stepped, stepFor, stepTunnel, stepPadding, replaceBy, replacing, asPadding, packet, letPass, stampsKept, freeWithEvicted, stamped, stamp, extraOver, rateOf, reported}
 use Rattle.rules.specs.Arguments.{EventIn, eventOf}
 use Rattle.rules.specs.Effects.{afterStep}
 use Rattle.laws.specs.Branches.{by-if}
@@ -110,7 +110,7 @@ padding-leaves s now e h n t d =
 
 -- ---- stamps, and `TunnelSent`
 
-evict-all : (P : Held ℕ → Type 0) (w now : ℕ) (l : List (Held ℕ)) → All P l → All P (evict w now l)
+evict-all : (P : Held ℕ → Type 0) (w now : ℕ) (l : List (Held ℕ)) → All P l → All P (stampsKept w now l)
 evict-all P w now [] h = tt
 evict-all P w now (t ∷ l) h = by-if (All P) (ltb w (now - t .value)) (evict-all P w now l (h .1)) h
 
@@ -118,7 +118,7 @@ all-last : {A : Type 0} (P : A → Type 0) (a : A) (l : List A) → P a → All 
 all-last P a [] p h = (p, tt)
 all-last P a (t ∷ l) p h = (h .0, all-last P a l p (h .1))
 
-evict-le : (w now : ℕ) (l : List (Held ℕ)) → length (evict w now l) ≤ length l
+evict-le : (w now : ℕ) (l : List (Held ℕ)) → length (stampsKept w now l) ≤ length l
 evict-le w now [] = omega arith
 evict-le w now (t ∷ l) =
     by-if (λ (m : List (Held ℕ)). length m ≤ suc (length l)) (ltb w (now - t .value)) (omega (arith, evict-le w now l)) (omega arith)
@@ -132,22 +132,22 @@ unfolding stamp
 stamp-sound s z now h n =
     let x : SideState = side s z in
     let w : ℕ = s .settings .window in
-    let f : List ℕ = evicted w now (x .stamps) (s .free) in
+    let f : List ℕ = freeWithEvicted w now (x .stamps) (s .free) in
     let st : List (Held ℕ) = stamped w now (x .stamps) (s .free) in
     let P : Held ℕ → Type 0 = λ (t : Held ℕ). t .value ≤ momentLimit in
     free-sound (withSide s z (withStamps x st)) (tail f)
     (sound-with s z (withStamps x st) h
-    (stamps-ok z x st (sound-side h z) (all-last P (inRecord (freePlace f) now) (evict w now (x .stamps)) n (evict-all P w now (x .stamps) (sound-side h z .stamps)))))
+    (stamps-ok z x st (sound-side h z) (all-last P (inRecord (freePlace f) now) (stampsKept w now (x .stamps)) n (evict-all P w now (x .stamps) (sound-side h z .stamps)))))
 
 -- a side after a stamp has at most one stamp more
 stamp-few : (s : State) (z : Side) (now : ℕ) → length (side (stamp s z now) z .stamps) ≤ suc (length (side s z .stamps))
 unfolding stamp
 stamp-few s client now =
     let w : ℕ = s .settings .window in
-    omega (arith, evict-le w now (s .client .stamps), length-append (evict w now (s .client .stamps)) (inRecord (freePlace (evicted w now (s .client .stamps) (s .free))) now ∷ []))
+    omega (arith, evict-le w now (s .client .stamps), length-append (stampsKept w now (s .client .stamps)) (inRecord (freePlace (freeWithEvicted w now (s .client .stamps) (s .free))) now ∷ []))
 stamp-few s server now =
     let w : ℕ = s .settings .window in
-    omega (arith, evict-le w now (s .server .stamps), length-append (evict w now (s .server .stamps)) (inRecord (freePlace (evicted w now (s .server .stamps) (s .free))) now ∷ []))
+    omega (arith, evict-le w now (s .server .stamps), length-append (stampsKept w now (s .server .stamps)) (inRecord (freePlace (freeWithEvicted w now (s .server .stamps) (s .free))) now ∷ []))
 
 extra-le : (w c : ℕ) (o : Option ℕ) → extraOver w c o ≤ w * c
 extra-le w c none = omega arith
@@ -191,8 +191,8 @@ tunnel-leaves s now e h n hw hc f =
 
 step-leaves :
     (s : State) (now : ℕ) (e : Event) (k : Kind) → Sound s → now ≤ momentLimit → s .settings .window ≤ durationLimit → length (side s (e .side) .stamps) ≤ recordLimit
-    → e .moment ≤ momentLimit → e .delay ≤ delayLimit → Fit (step s now e k) → Sound (step s now e k .state)
-unfolding step
+    → e .moment ≤ momentLimit → e .delay ≤ delayLimit → Fit (stepFor k s now e) → Sound (stepFor k s now e .state)
+unfolding stepFor
 step-leaves s now e TunnelSent h n w c t d f = tunnel-leaves s now e h n w c f
 step-leaves s now e NormalSent h n w c t d f =
     push-sound s (packet TunnelSent (e .moment) (e .delay) (e .side) false false false) h (packet-ok _ TunnelSent (e .moment) (e .delay) (e .side) false false false refl t d)

@@ -18,7 +18,6 @@ use Rattle.rules.specs.ChoiceRound.{candidate, next, round, fits, roundSums}
 use Rattle.rules.specs.Choice.{choose, refused, rounds}
 use Rattle.laws.specs.Accepted.{Accepted, only, times}
 use Rattle.laws.specs.Unplaced.{Alike}
-use Rattle.laws.specs.Demand.{Demand, list-demand}
 use Rattle.laws.specs.Ended.{below-ten, call-marks, step-ten, ten-ends, ten-works, choice-numbers, ended-refuses}
 use Rattle.laws.specs.AcceptedKept.{call-accepted}
 use Rattle.laws.specs.Rounds.{call-carries, choice-has-room, choice-ten, enough-states}
@@ -143,11 +142,3 @@ opening-leaves-accepted o words h = opened-accepted o words h
 -- The same of any list of calls: equal answers, and states that differ in record numbers alone.
 pub list-reads-only-values : (l : List Call) (s t : State) → Alike s t → (answers s l ≡ answers t l) × Alike (afterAll s l) (afterAll t l)
 list-reads-only-values l s t h = list-reads-values l s t h
-
--- Demand 3: any list of calls from any accepted state, ended or not, refused calls included.
-pub demand-3 : (l : List Call) (s : State) → Accepted s → Demand s l
-demand-3 l s h = list-demand l s h
-
--- So too after opening.
-pub demand-3-after-opening : (l : List Call) (o : Opening) (words : ℕ) → openRefusal words o ≡ none → Demand (opened o words) l
-demand-3-after-opening l o words h = list-demand l (opened o words) (opened-accepted o words h)

@@ -2,6 +2,7 @@
 use Prim.Native.Nat.{suc, _+_}
 use mathlib.Core.Path.{_≡_, refl, sym, ap, _∙_}
 use mathlib.Core.List.{List, [], _∷_, _++_, tail}
+use native.Mathlib.Omega.{arith}
 use lib.Dec.{ltb}
 use lib.ListN.{length}
 use Rattle.rules.specs.Basics.{before, rank, Side, client, server}
@@ -180,5 +181,5 @@ unfolding reserved
 reserved-unplaced s = refl
 
 pub roundsLeft-unplaced : (s : State) → roundsLeft (unplacedState s) ≡ roundsLeft s
-unfolding roundsLeft reserved
-roundsLeft-unplaced s = ap (λ n. n + reserved s) (unplaced-length (s .aggregates))
+unfolding roundsLeft
+roundsLeft-unplaced s = omega (arith, unplaced-length (s .aggregates))

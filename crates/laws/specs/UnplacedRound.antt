@@ -12,7 +12,7 @@ use Rattle.rules.specs.ChoiceHeads.{Head, waitingHead}
 use Rattle.rules.specs.Queueing.{pushEvent}
 use Rattle.rules.specs.Aggregates.{bufferWindow, baseWindow, adjacentWindow, waiting, baseMoment, within, anyWithin, tailOf, burstTail, onExpire, onReplace, onDelayed, testSums, aggregatesOf, addAggregates}
 use Rattle.rules.specs.ChoiceDelays.{Block}
-use Rattle.rules.specs.ChoiceRound.{Slot, Candidate, anAggregate, aBlock, anEvent, aTimer, anAction, none-left, RoundOutcome, next, taken, nothing, passed, raisedSum, takeAggregate, endMoment, endEvent, heldUp, endAggregates, clearBlock, endBlock, eventAt, shifted, takenEvent, popSide, liftEvent, takeEvent, timerEvent, clearTimer, clearAction, noAction, setsBlock, actedSide, actedEvent, doAction, actionSums, act, candidate, candidateSums, someSum, alwaysSums, roundSums, fits, closed, round}
+use Rattle.rules.specs.ChoiceRound.{Slot, Candidate, anAggregate, aBlock, anEvent, aTimer, anAction, none-left, RoundOutcome, next, taken, nothing, passed, raisedSum, takeAggregate, endMoment, endEvent, heldUpLength, endAggregates, clearBlock, endBlock, eventAt, shifted, takenEvent, popSide, liftEvent, takeEvent, timerEvent, clearTimer, clearAction, noAction, setsBlock, actedSide, actedEvent, doAction, actionSums, act, candidate, candidateSums, someSum, alwaysSums, roundSums, fits, closed, round}
 use Rattle.rules.specs.Choice.{Called, event, nothing-left, refused, settle, rounds, choose}
 use Rattle.laws.specs.Unplaced.{unplacedList, unplaced, unplacedSide, unplacedState, Alike, unplaced-length, unplaced-tail, unplaced-append, side-unplaced, with-unplaced, unplaced-state-twice, settled, push-unplaced, add-unplaced, roundsLeft-unplaced}
 use Rattle.laws.specs.Branches.{if-both}
@@ -90,7 +90,7 @@ end-event-unplaced s now k = go (k .side)
     go client = refl
     go server = refl
 
-held-up-unplaced : (x : SideState) (end : ℕ) (o : Option Head) → heldUp (unplacedSide x) end (unplacedFound o) ≡ heldUp x end o
+held-up-unplaced : (x : SideState) (end : ℕ) (o : Option Head) → heldUpLength (unplacedSide x) end (unplacedFound o) ≡ heldUpLength x end o
 held-up-unplaced x end none = refl
 held-up-unplaced x end (some h) = λ d. if ltb (h .moment) end then on-expire-unplaced x end (h .moment) d else none
 
@@ -98,8 +98,8 @@ end-aggregates-unplaced : (s : State) (now : ℕ) (k : Block) → endAggregates 
 end-aggregates-unplaced s now k =
     let x : SideState = side s (k .side) in
     let t : ℕ = endMoment now k in
-    (λ d. aggregatesOf (s .settings .networkDelay) (k .side) t (heldUp (side-unplaced s (k .side) d) t (waitingHead false (side-unplaced s (k .side) d))))
-    ∙ (λ d. aggregatesOf (s .settings .networkDelay) (k .side) t (heldUp (unplacedSide x) t (waiting-head-unplaced false x d)))
+    (λ d. aggregatesOf (s .settings .networkDelay) (k .side) t (heldUpLength (side-unplaced s (k .side) d) t (waitingHead false (side-unplaced s (k .side) d))))
+    ∙ (λ d. aggregatesOf (s .settings .networkDelay) (k .side) t (heldUpLength (unplacedSide x) t (waiting-head-unplaced false x d)))
     ∙ (λ d. aggregatesOf (s .settings .networkDelay) (k .side) t (held-up-unplaced x t (waitingHead false x) d))
 
 clear-block-unplaced : (s : State) (now : ℕ) (k : Block) → unplacedState (clearBlock s now k) ≡ clearBlock (unplacedState s) now k

@@ -12,7 +12,7 @@ use Rattle.rules.specs.ChoiceHeads.{Head, waitingHead}
 use Rattle.rules.specs.Queueing.{putEvent, pushEvent}
 use Rattle.rules.specs.Aggregates.{onReplace, onDelayed, testSums, aggregatesOf, addAggregates}
 use Rattle.rules.specs.ChoiceRound.{liftEvent}
-use Rattle.rules.specs.NetworkStep.{Stepped, packet, queueing, unmoved, asPadding, letPass, replaceBy, replacing, stepPadding, evict, stamped, stamp, rateOf, extraOver, reported, stepTunnel, step}
+use Rattle.rules.specs.NetworkStep.{Stepped, packet, queueing, unmoved, asPadding, letPass, replaceBy, replacing, stepPadding, stampsKept, stamped, stamp, rateOf, extraOver, reported, stepTunnel, stepFor}
 use Rattle.laws.specs.Unplaced.{unplacedList, unplacedSide, unplacedState, Alike, unplaced-length, unplaced-twice, unplaced-append, side-unplaced, unplaced-state-twice, settled, put-unplaced, push-unplaced, add-unplaced}
 use Rattle.laws.specs.Branches.{if-both, if-alike}
 use Rattle.laws.specs.UnplacedHeads.{unplacedHead, unplacedFound, waiting-head-unplaced}
@@ -80,15 +80,15 @@ padding-unplaced s now e =
 
 -- ---- `TunnelSent`
 
-evict-unplaced : (w now : ℕ) (l : List (Held ℕ)) → unplacedList (evict w now l) ≡ evict w now (unplacedList l)
+evict-unplaced : (w now : ℕ) (l : List (Held ℕ)) → unplacedList (stampsKept w now l) ≡ stampsKept w now (unplacedList l)
 evict-unplaced w now [] = refl
 evict-unplaced w now (t ∷ l) = sym (if-both unplacedList (ltb w (now - t .value)) (sym (evict-unplaced w now l)) refl)
 
 stamped-unplaced : (w now : ℕ) (l : List (Held ℕ)) (f : List ℕ) → unplacedList (stamped w now l f) ≡ unplacedList (stamped w now (unplacedList l) [])
 stamped-unplaced w now l f =
-    unplaced-append (evict w now l) _
-    ∙ (λ d. (sym (unplaced-twice (evict w now l)) ∙ ap unplacedList (evict-unplaced w now l)) d ++ (inRecord 0 now ∷ []))
-    ∙ sym (unplaced-append (evict w now (unplacedList l)) _)
+    unplaced-append (stampsKept w now l) _
+    ∙ (λ d. (sym (unplaced-twice (stampsKept w now l)) ∙ ap unplacedList (evict-unplaced w now l)) d ++ (inRecord 0 now ∷ []))
+    ∙ sym (unplaced-append (stampsKept w now (unplacedList l)) _)
 
 stamp-alike : (s : State) (z : Side) (now : ℕ) → Alike (stamp s z now) (stamp (unplacedState s) z now)
 unfolding stamp
@@ -154,8 +154,8 @@ tunnel-unplaced s now e = λ d. record { answer = true; state = q d; sums = sums
 
 -- ---- the step
 
-pub step-unplaced : (s : State) (now : ℕ) (e : Event) (k : Kind) → unplacedStepped (step s now e k) ≡ unplacedStepped (step (unplacedState s) now e k)
-unfolding step
+pub step-unplaced : (s : State) (now : ℕ) (e : Event) (k : Kind) → unplacedStepped (stepFor k s now e) ≡ unplacedStepped (stepFor k (unplacedState s) now e)
+unfolding stepFor
 step-unplaced s now e TunnelSent = tunnel-unplaced s now e
 step-unplaced s now e NormalSent = queueing-unplaced s false (packet TunnelSent (e .moment) (e .delay) (e .side) false false false)
 step-unplaced s now e PaddingSent = padding-unplaced s now e

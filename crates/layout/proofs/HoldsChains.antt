@@ -1,6 +1,6 @@
 -- What the chains of accepted words hold is what an accepted state's chains hold: events in their chains and in order, stamps, aggregates. Assumes nothing.
 use Prim.Native.Nat.{ℕ, _≤_, _<_, _%_}
-use mathlib.Core.Path.{_≡_, refl, sym, ap, subst}
+use mathlib.Core.Path.{_≡_, refl, sym, ap, subst, _∙_}
 use mathlib.Core.Bool.{Bool, true, false, not, _&&_, _||_}
 use mathlib.Core.List.{List, [], _∷_, map}
 use native.Mathlib.Omega.{arith}
@@ -17,7 +17,7 @@ use Rattle.queue_event.specs.Chain.{rankOf, Rec, Node}
 use Rattle.queue_event.specs.Tag.{flag, kindField, bypassField}
 use Rattle.layout.specs.Records.{KindOk, MachineOk, RecordOk, Follows, Fit, Ordered}
 use Rattle.layout.specs.Layout.{eventFrom, aggregateFrom, heldEvent, heldStamp, heldAggregate}
-use Rattle.layout.proofs.Order.{rank-kind, Ranked, fit-ranked}
+use Rattle.layout.proofs.Order.{chain-kind, machine-kind, rank-kind, Ranked, fit-ranked}
 
 -- ---- an event
 
@@ -50,10 +50,10 @@ event-fits z c k n x e lo hi r =
     let kd : KindOk (placeNo c) (kindField (x .tag)) (bypassField (x .tag)) = subst (λ p. KindOk p (kindField (x .tag)) (bypassField (x .tag))) (sym e) (o .kind) in
     record {
       of-side = refl;
-      of-chain = rw (rank-kind (kindField (x .tag)) (omega (arith, kd .kinds))) (chain-from c (kindField (x .tag)) (bypassField (x .tag)) kd);
+      of-chain = chain-kind (flag (bypassField (x .tag))) (kindField (x .tag)) (omega (arith, kd .kinds)) ∙ chain-from c (kindField (x .tag)) (bypassField (x .tag)) kd;
       moment = o .moments;
       delay = o .spans;
-      machine = rw (rank-kind (kindField (x .tag)) (omega (arith, kd .kinds))) (machine-from (kindField (x .tag)) n _ (o .machine));
+      machine = rw (machine-kind (kindField (x .tag)) (omega (arith, kd .kinds))) (machine-from (kindField (x .tag)) n _ (o .machine));
     }
 
 events-fit : (z : Side) (c : Chain) (k n : ℕ) (l : List Node) → placeNo c ≡ k % 5 → 0 < k % 5 → k < 11 → Fit k n l → All (λ (e : Held Event). EventFits n z c (e .value)) (map (heldEvent z) l)

@@ -6,12 +6,14 @@ use mathlib.Core.List.{List, [], _∷_, map}
 use native.Mathlib.Omega.{arith}
 use lib.Dec.{ltb, eqb}
 use borrow.Author.Tests.{ltb-true, ltb-false, eqb-true, eqb-false, not-true, not-false}
-use Rattle.rules.specs.Basics.{if_then_else_, before, Side, rank}
-use Rattle.rules.specs.Queueing.{insert}
+use Rattle.rules.specs.Basics.{if_then_else_, before, Side, hasMachine, isTunnelSent, rank}
+use Rattle.rules.specs.Queueing.{chainFor, insert}
+use Rattle.rules.specs.State.{base, blocking, bypassable, internal}
 use Rattle.queue_event.specs.Chain.{pick, rankOf, Node}
 use Rattle.queue_event.specs.Order.{stays, insertSorted}
 use Rattle.queue_event.specs.Tag.{kindField}
 use Rattle.event.specs.Values.{kindAt}
+use Rattle.event.proofs.Numbers.{by-kind}
 use Rattle.layout.specs.Records.{RecordOk, Follows, Fit, Ordered}
 use Rattle.layout.specs.Layout.{eventFrom, heldEvent}
 
@@ -29,6 +31,28 @@ rank-kind (suc (suc (suc (suc (suc (suc (suc zero))))))) l = refl
 rank-kind (suc (suc (suc (suc (suc (suc (suc (suc zero)))))))) l = refl
 rank-kind (suc (suc (suc (suc (suc (suc (suc (suc (suc zero))))))))) l = refl
 rank-kind (suc (suc (suc (suc (suc (suc (suc (suc (suc (suc n)))))))))) l = absurd (omega arith)
+
+-- what the rules say kind by kind, by the kind's number: whether it is `TunnelSent`, whether it has a machine, and its chain
+pub sent-kind : (n : ℕ) → n < 10 → isTunnelSent (kindAt n) ≡ eqb n 0
+sent-kind = by-kind (λ n. isTunnelSent (kindAt n) ≡ eqb n 0) refl refl refl refl refl refl refl refl refl refl
+
+pub machine-kind : (n : ℕ) → n < 10 → hasMachine (kindAt n) ≡ (eqb n 2 || eqb n 6 || ltb 7 n)
+machine-kind = by-kind (λ n. hasMachine (kindAt n) ≡ (eqb n 2 || eqb n 6 || ltb 7 n)) refl refl refl refl refl refl refl refl refl refl
+
+pub chain-kind : (f : Bool) (n : ℕ) → n < 10 → chainFor (kindAt n) f ≡ (if eqb n 0 then if f then bypassable else blocking else if eqb n 1 then base else internal)
+chain-kind f =
+    by-kind
+    (λ n. chainFor (kindAt n) f ≡ (if eqb n 0 then if f then bypassable else blocking else if eqb n 1 then base else internal))
+    refl
+    refl
+    refl
+    refl
+    refl
+    refl
+    refl
+    refl
+    refl
+    refl
 
 -- ---- what stays before a new record is what the new one does not go before
 

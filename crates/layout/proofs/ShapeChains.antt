@@ -19,7 +19,7 @@ use Rattle.event.specs.Values.{kindAt}
 use Rattle.layout.specs.Records.{MachineOk, Fit, Ordered}
 use Rattle.layout.specs.Layout.{eventFrom, aggregateFrom, heldEvent, heldAggregate, heldStamp}
 use Rattle.layout.specs.Shape.{Shapes}
-use Rattle.layout.proofs.Order.{rank-kind, Ranked}
+use Rattle.layout.proofs.Order.{machine-kind, rank-kind, Ranked}
 
 -- ---- each record may stand in its chain
 
@@ -50,7 +50,7 @@ machine-fits k n m l f =
     }
   where
     has : hasMachine (kindAt k) ≡ (eqb k 2 || eqb k 6 || ltb 7 k)
-    has = ap (λ (r : ℕ). eqb r 2 || eqb r 6 || ltb 7 r) (rank-kind k l)
+    has = machine-kind k l
 
 pub fit-events :
     (k c : ℕ) (z : Side) (of : Chain) (l : List Node) → 0 < k % 5 → k < 11 → Shapes k l → All (λ (e : Held Event). HeldEvent c z of (e .value)) (map (heldEvent z) l) → Fit k c l

@@ -1,12 +1,14 @@
--- What is known of accepted words, for a reader: each record stands in one chain, once; the state fixes the words; it is an accepted state of the rules; and
--- opening makes such words. Assumes nothing.
-use Prim.Native.Nat.{ℕ, _<_}
+-- What is known of accepted words, for a reader: each record stands in one chain, once; the state fixes the words; it is an accepted state of the rules;
+-- opening makes such words, and the table's small input of number 2 is none. Assumes nothing.
+use Prim.Native.Nat.{ℕ, _<_, _≤_}
 use mathlib.Core.Path.{_≡_}
 use mathlib.Core.List.{List}
 use mathlib.Core.Option.{none}
-use lib.ListN.{length, getD, drop}
+use native.Mathlib.Omega.{arith}
+use lib.ListN.{length, getD, drop, replicate}
 use Rattle.queue_event.specs.Words.{tagOf, In}
 use Rattle.queue_event.specs.Tag.{markOf}
+use Rattle.rules.specs.Limits.{durationLimit}
 use Rattle.rules.specs.Opening.{Opening, openRefusal, opened}
 use Rattle.laws.specs.Accepted.{Accepted as AcceptedState}
 use Rattle.layout.specs.Accepted.{Accepted}
@@ -37,6 +39,11 @@ free-marked w a r y = free-mark w a r y
 -- what accepted words hold is an accepted state of the rules: values within limits, chains in order, the room rule, each record once
 pub holds-accepted : (w : List ℕ) → Accepted w → AcceptedState (stateOf w)
 holds-accepted w a = words-hold w a
+
+-- the table's small input of number 2: 260 words, each 2^64 − 1, are of a right length and not accepted. The first word, the network delay, is
+-- above its limit
+pub ones-not-accepted : Accepted (replicate 260 18_446_744_073_709_551_615) → ⊥
+ones-not-accepted a = let h : 18_446_744_073_709_551_615 ≤ durationLimit = a .good .limits 0 (omega arith) in omega (arith, h)
 
 -- opening that is not refused leaves accepted words, and they hold what the rules open
 pub opening-accepted : (o : Opening) (n : ℕ) → openRefusal n o ≡ none → Accepted (openedWords o n)

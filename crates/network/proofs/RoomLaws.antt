@@ -12,7 +12,7 @@ use Rattle.rules.specs.Aggregates.{addAggregates, aggregatesOf, onReplace}
 use Rattle.rules.specs.ChoiceHeads.{Head, waitingHead}
 use Rattle.rules.specs.ChoiceRound.{liftEvent, popSide}
 use Rattle.rules.specs.Queueing.{putEvent}
-use Rattle.rules.specs.NetworkStep.{evict, evicted, letPass, packet, stamp, stamped, stepPadding, stepTunnel}
+use Rattle.rules.specs.NetworkStep.{stampsKept, freeWithEvicted, letPass, packet, stamp, stamped, stepPadding, stepTunnel}
 use Rattle.laws.specs.Counts.{used-with, used-put, used-free, used-push, used-add, length-tail}
 use Rattle.laws.specs.Heads.{HeadOf}
 use Rattle.network.specs.Stamps.{evictedCount}
@@ -37,7 +37,7 @@ stamp-used s z now =
     let w : ℕ = s .settings .window in
     let l : List (Held ℕ) = stamped w now (x .stamps) (s .free) in
     omega
-    (arith, used-free (withSide s z (withStamps x l)) (tail (evicted w now (x .stamps) (s .free))), used-with s z (withStamps x l), length-append (evict w now (x .stamps)) (inRecord (freePlace (evicted w now (x .stamps) (s .free))) now ∷ []), evict-le w now (x .stamps))
+    (arith, used-free (withSide s z (withStamps x l)) (tail (freeWithEvicted w now (x .stamps) (s .free))), used-with s z (withStamps x l), length-append (stampsKept w now (x .stamps)) (inRecord (freePlace (freeWithEvicted w now (x .stamps) (s .free))) now ∷ []), evict-le w now (x .stamps))
 
 plan-stale : (s : State) (now : ℕ) (e : Event) → tunnelPlan s now e .stale ≡ evictedCount (s .settings .window) now (side s (e .side) .stamps)
 unfolding tunnelPlan

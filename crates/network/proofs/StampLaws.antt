@@ -14,7 +14,7 @@ use mir.Syntax.{w64}
 use Rattle.rules.specs.Basics.{Side, client, server, if_then_else_}
 use Rattle.rules.specs.State.{Held, side}
 use Rattle.rules.specs.Limits.{durationLimit}
-use Rattle.rules.specs.NetworkStep.{evict, extraOver, rateOf}
+use Rattle.rules.specs.NetworkStep.{stampsKept, extraOver, rateOf}
 use Rattle.moment.specs.declared.Length.{Length}
 use Rattle.queue_event.specs.Words.{In, nextOf, momentOf}
 use Rattle.queue_event.specs.Chain.{nodes, recAt}
@@ -82,13 +82,13 @@ extra-small w c (some p) lw lc = go (ltb p c)
     go true = product-small w p (c - p) lw (omega arith)
     go false = omega arith
 
--- ---- what evict drops
+-- ---- the stamps that go
 
-pub evict-le : (w now : ℕ) (l : List (Held ℕ)) → length (evict w now l) ≤ length l
+pub evict-le : (w now : ℕ) (l : List (Held ℕ)) → length (stampsKept w now l) ≤ length l
 evict-le w now [] = omega arith
 evict-le w now (t ∷ l) = go (ltb w (now - t .value)) (evict-le w now l)
   where
-    go : (b : Bool) → length (evict w now l) ≤ length l → length (if b then evict w now l else t ∷ l) ≤ suc (length l)
+    go : (b : Bool) → length (stampsKept w now l) ≤ length l → length (if b then stampsKept w now l else t ∷ l) ≤ suc (length l)
     go true e = omega arith
     go false e = omega arith
 
@@ -96,7 +96,7 @@ pub stale-count : (w now : ℕ) (l : List (Held ℕ)) → staleCount w now l ≡
 stale-count w now [] = refl
 stale-count w now (t ∷ l) = go (ltb w (now - t .value)) (stale-count w now l) (evict-le w now l)
   where
-    go : (b : Bool) → staleCount w now l ≡ evictedCount w now l → length (evict w now l) ≤ length l → (if b then suc (staleCount w now l) else 0) ≡ suc (length l) - length (if b then evict w now l else t ∷ l)
+    go : (b : Bool) → staleCount w now l ≡ evictedCount w now l → length (stampsKept w now l) ≤ length l → (if b then suc (staleCount w now l) else 0) ≡ suc (length l) - length (if b then stampsKept w now l else t ∷ l)
     go true e f = omega arith
     go false e f = omega arith
 
@@ -169,7 +169,7 @@ module _ (hd rs : List ℕ) (z : Side) (k n₀ f₀ w now n h gone : ℕ) (ek : 
 -- ---- fill
 
 module _ (h rs : List ℕ) (z : Side) (k n w now gone : ℕ) (g : Good h rs) (ek : k ≡ 5 + 5 * sideNo z) (lk : k ≤ 10) (en : n ≡ countOf h k) (eg : gone ≡ evictedCount w now (side (stateFrom h rs) z .stamps)) where
-  left-is : n - gone ≡ length (evict w now (side (stateFrom h rs) z .stamps))
+  left-is : n - gone ≡ length (stampsKept w now (side (stateFrom h rs) z .stamps))
   left-is = omega (arith, evict-le w now (side (stateFrom h rs) z .stamps), stamps-long h rs z k ek lk n en)
 
   pub gone-le : gone ≤ n

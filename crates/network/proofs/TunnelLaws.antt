@@ -13,7 +13,7 @@ use Rattle.rules.specs.State.{Event, SideState, State, side}
 use Rattle.rules.specs.Limits.{momentLimit, durationLimit}
 use Rattle.rules.specs.Aggregates.{aggregatesOf, onDelayed, testSums}
 use Rattle.rules.specs.ChoiceRound.{fits, someSum}
-use Rattle.rules.specs.NetworkStep.{evict, extraOver, packet, rateOf, reported, stamp, stepTunnel}
+use Rattle.rules.specs.NetworkStep.{stampsKept, extraOver, packet, rateOf, reported, stamp, stepTunnel}
 use Rattle.moment.specs.declared.Length.{Length}
 use Rattle.moment.specs.declared.Moment.{Moment}
 use Rattle.event.specs.declared.SimEvent.{SimEvent}
@@ -41,10 +41,10 @@ use Rattle.network.proofs.DueLaws.{fits-append}
 
 -- ---- the rules' step by its plan
 
-stamped-long : (s : State) (z : Side) (now : ℕ) → length (side (stamp s z now) z .stamps) ≡ length (evict (s .settings .window) now (side s z .stamps)) + 1
+stamped-long : (s : State) (z : Side) (now : ℕ) → length (side (stamp s z now) z .stamps) ≡ length (stampsKept (s .settings .window) now (side s z .stamps)) + 1
 unfolding stamp
-stamped-long s client now = length-append (evict (s .settings .window) now (s .client .stamps)) _
-stamped-long s server now = length-append (evict (s .settings .window) now (s .server .stamps)) _
+stamped-long s client now = length-append (stampsKept (s .settings .window) now (s .client .stamps)) _
+stamped-long s server now = length-append (stampsKept (s .settings .window) now (s .server .stamps)) _
 
 pub tunnel-step : (s : State) (now : ℕ) (e : Event) → stepTunnel s now e ≡ tunnelStep s now e (tunnelPlan s now e)
 unfolding stepTunnel tunnelPlan testedBy testedSums
@@ -152,8 +152,8 @@ arrived e now network reporting m em = ap₂ (λ t z. packet TunnelRecv t (repor
 -- ---- plan
 
 module _ (l : Link) (s : State) (e : SimEvent) (now : ℕ) (f : Filled) (k : LinkAs l s (sideOf (e .client))) (ef : FilledAs f (l .window .0) now (limitOf (l .rate)) (side s (sideOf (e .client)) .stamps)) where
-  extra-is : f .extra .0 ≡ extraAt s (length (evict (s .settings .window) now (side s (sideOf (e .client)) .stamps)) + 1)
-  extra-is = ef .extra ∙ (λ i. extraOver (k .window i) (length (evict (k .window i) now (side s (sideOf (e .client)) .stamps)) + 1) (k .rate i))
+  extra-is : f .extra .0 ≡ extraAt s (length (stampsKept (s .settings .window) now (side s (sideOf (e .client)) .stamps)) + 1)
+  extra-is = ef .extra ∙ (λ i. extraOver (k .window i) (length (stampsKept (k .window i) now (side s (sideOf (e .client)) .stamps)) + 1) (k .rate i))
 
   pub planned : (t : Tested) (v : SimEvent) (n : ℕ) → TestedAs t (testedBy (side s (sideOf (e .client))) (l .sum .0) (e .moment .0) (f .extra .0)) (testedSums (side s (sideOf (e .client))) (l .sum .0) (e .moment .0) (f .extra .0))
       → n ≡ f .extra .0 + l .delay .0
@@ -168,16 +168,16 @@ module _ (l : Link) (s : State) (e : SimEvent) (now : ℕ) (f : Filled) (k : Lin
       stale-is : f .stale ≡ evictedCount (s .settings .window) now (x .stamps)
       stale-is = ef .stale ∙ ap (λ w. evictedCount w now (x .stamps)) (k .window)
 
-      by-is : delayedOf (t .by) ≡ testedBy x (s .client .sum) (e .moment .0) (extraAt s (length (evict (s .settings .window) now (x .stamps)) + 1))
+      by-is : delayedOf (t .by) ≡ testedBy x (s .client .sum) (e .moment .0) (extraAt s (length (stampsKept (s .settings .window) now (x .stamps)) + 1))
       by-is = et .found ∙ ap₂ (λ a b. testedBy x a (e .moment .0) b) (k .sum) extra-is
 
-      formed-is : someSum (baseOf (t .base)) ≡ testedSums x (s .client .sum) (e .moment .0) (extraAt s (length (evict (s .settings .window) now (x .stamps)) + 1))
+      formed-is : someSum (baseOf (t .base)) ≡ testedSums x (s .client .sum) (e .moment .0) (extraAt s (length (stampsKept (s .settings .window) now (x .stamps)) + 1))
       formed-is = et .formed ∙ ap₂ (λ a b. testedSums x a (e .moment .0) b) (k .sum) extra-is
 
-      network-is : n ≡ extraAt s (length (evict (s .settings .window) now (x .stamps)) + 1) + s .settings .networkDelay
+      network-is : n ≡ extraAt s (length (stampsKept (s .settings .window) now (x .stamps)) + 1) + s .settings .networkDelay
       network-is = en ∙ ap₂ _+_ extra-is (k .delay)
 
-      received-is : eventValue v ≡ receivedAs s now (sentOf e) (extraAt s (length (evict (s .settings .window) now (x .stamps)) + 1))
+      received-is : eventValue v ≡ receivedAs s now (sentOf e) (extraAt s (length (stampsKept (s .settings .window) now (x .stamps)) + 1))
       received-is = ev ∙ ap₂ (λ a b. packet TunnelRecv (reported (sentOf e) now a b) b (other (sideOf (e .client))) (e .padding) false false) network-is (k .reporting)
 
 -- ---- fit

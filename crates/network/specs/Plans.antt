@@ -15,7 +15,7 @@ use Rattle.rules.specs.ChoiceHeads.{Head, waitingHead}
 use Rattle.rules.specs.ChoiceRound.{liftEvent, someSum}
 use Rattle.rules.specs.Queueing.{pushEvent, putEvent}
 use Rattle.rules.specs.Aggregates.{addAggregates, aggregatesOf, onDelayed, onReplace, testSums}
-use Rattle.rules.specs.NetworkStep.{Stepped, packet, unmoved, asPadding, letPass, evict, extraOver, rateOf, reported, stamp}
+use Rattle.rules.specs.NetworkStep.{Stepped, packet, unmoved, asPadding, letPass, stampsKept, extraOver, rateOf, reported, stamp}
 use Rattle.event.specs.declared.SimEvent.{SimEvent}
 use Rattle.event.specs.HandedIn.{eventIn}
 use Rattle.queue.specs.declared.peek.Head.{Head as HeadFound}
@@ -94,7 +94,7 @@ tunnelWith s now e c =
     }
 
 unfoldable pub tunnelPlan : State → ℕ → Event → TunnelPlan
-tunnelPlan s now e = tunnelWith s now e (length (evict (s .settings .window) now (side s (e .side) .stamps)) + 1)
+tunnelPlan s now e = tunnelWith s now e (length (stampsKept (s .settings .window) now (side s (e .side) .stamps)) + 1)
 
 -- the sums of the step, with network delay d
 abbrev pub tunnelSums : ℕ → Side → ℕ → TunnelPlan → List ℕ

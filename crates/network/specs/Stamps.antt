@@ -5,7 +5,7 @@ use mathlib.Core.List.{List, map}
 use mathlib.Core.Option.{Option, none, some}
 use lib.ListN.{length}
 use Rattle.rules.specs.State.{Held}
-use Rattle.rules.specs.NetworkStep.{evict, extraOver}
+use Rattle.rules.specs.NetworkStep.{stampsKept, extraOver}
 use Rattle.queue_event.specs.Chain.{Chain, nodes}
 use Rattle.layout.specs.Layout.{heldStamp}
 use Rattle.queue.specs.Stamps.{staleCount}
@@ -30,9 +30,9 @@ pub record RatedAs (r : Rate) (o : Option ℕ) : Type 0 where
 
 -- ---- the stamps that go
 
--- how many `evict` drops
+-- how many go
 abbrev pub evictedCount : ℕ → ℕ → List (Held ℕ) → ℕ
-evictedCount window now l = length l - length (evict window now l)
+evictedCount window now l = length l - length (stampsKept window now l)
 
 -- at each turn of the loop that counts the same: what is left is a chain, and its stale stamps with those gone are all
 pub record Ages (rs : List ℕ) (window now goal count n h gone : ℕ) : Type 0 where
@@ -46,5 +46,5 @@ pub record Ages (rs : List ℕ) (window now goal count n h gone : ℕ) : Type 0 
 -- what goes, and what the stamps left add with the new one; that is at most 65,536 times the longest window
 pub record FilledAs (r : Filled) (window now : ℕ) (limit : Option ℕ) (l : List (Held ℕ)) : Type 0 where
   pub stale : r .stale ≡ evictedCount window now l
-  pub extra : r .extra .0 ≡ extraOver window (length (evict window now l) + 1) limit
+  pub extra : r .extra .0 ≡ extraOver window (length (stampsKept window now l) + 1) limit
   pub small : r .extra .0 ≤ 65_536_000_000_000_000

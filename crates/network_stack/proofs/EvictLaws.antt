@@ -8,7 +8,7 @@ use lib.Dec.{ltb}
 use lib.ListN.{length, take, drop}
 use Rattle.rules.specs.Basics.{Side, client, server, if_then_else_}
 use Rattle.rules.specs.State.{Held, State, side}
-use Rattle.rules.specs.NetworkStep.{evict, evicted, stamp}
+use Rattle.rules.specs.NetworkStep.{stampsKept, freeWithEvicted, stamp}
 use Rattle.layout.specs.Layout.{stateOf, heldStamp}
 use Rattle.layout.specs.Changes.{sideNo}
 use Rattle.queue.specs.Changes.{MayRelease, Released, countIn, headIn}
@@ -31,18 +31,18 @@ pub stale-evicted : (w now : ℕ) (l : List (Held ℕ)) → staleCount w now l �
 stale-evicted w now [] = refl
 stale-evicted w now (t ∷ l) = go (ltb w (now - t .value)) (stale-evicted w now l) (evict-le w now l)
   where
-    go : (b : Bool) → staleCount w now l ≡ evictedCount w now l → length (evict w now l) ≤ length l
-        → (if b then suc (staleCount w now l) else 0) ≡ suc (length l) - length (if b then evict w now l else t ∷ l)
+    go : (b : Bool) → staleCount w now l ≡ evictedCount w now l → length (stampsKept w now l) ≤ length l
+        → (if b then suc (staleCount w now l) else 0) ≡ suc (length l) - length (if b then stampsKept w now l else t ∷ l)
     go true e f = omega arith
     go false e f = omega arith
 
 -- their records come to the free ones
-evicted-free : (w now : ℕ) (l : List (Held ℕ)) (f : List ℕ) → length (evicted w now l f) ≡ length f + staleCount w now l
+evicted-free : (w now : ℕ) (l : List (Held ℕ)) (f : List ℕ) → length (freeWithEvicted w now l f) ≡ length f + staleCount w now l
 evicted-free w now [] f = omega arith
 evicted-free w now (t ∷ l) f = go (ltb w (now - t .value)) (evicted-free w now l (t .place ∷ f))
   where
-    go : (b : Bool) → length (evicted w now l (t .place ∷ f)) ≡ suc (length f) + staleCount w now l
-        → length (if b then evicted w now l (t .place ∷ f) else f) ≡ length f + (if b then suc (staleCount w now l) else 0)
+    go : (b : Bool) → length (freeWithEvicted w now l (t .place ∷ f)) ≡ suc (length f) + staleCount w now l
+        → length (if b then freeWithEvicted w now l (t .place ∷ f) else f) ≡ length f + (if b then suc (staleCount w now l) else 0)
     go true e = omega arith
     go false e = omega arith
 
@@ -156,5 +156,5 @@ module _ (w v : List ℕ) (z : Side) (gone left a : ℕ) (at : Evicting w v z go
 pub stamp-free : (s : State) (z : Side) (now : ℕ) → length (stamp s z now .free) ≡ length (s .free) + evictedCount (s .settings .window) now (side s z .stamps) - 1
 unfolding stamp
 stamp-free s z now =
-    tail-less (evicted (s .settings .window) now (side s z .stamps) (s .free))
+    tail-less (freeWithEvicted (s .settings .window) now (side s z .stamps) (s .free))
     ∙ ap (λ n. n - 1) (evicted-free (s .settings .window) now (side s z .stamps) (s .free) ∙ ap (λ n. length (s .free) + n) (stale-evicted (s .settings .window) now (side s z .stamps)))

@@ -17,7 +17,7 @@ use Rattle.rules.specs.Refusals.{full}
 use Rattle.rules.specs.ChoiceHeads.{Head as RulesHead}
 use Rattle.rules.specs.ChoiceRound.{liftEvent, popSide}
 use Rattle.rules.specs.Queueing.{putEvent}
-use Rattle.rules.specs.NetworkStep.{evicted, letPass, stamp, stamped, stepPadding, stepTunnel}
+use Rattle.rules.specs.NetworkStep.{freeWithEvicted, letPass, stamp, stamped, stepPadding, stepTunnel}
 use Rattle.laws.specs.Accepted.{Accepted as HeldAccepted}
 use Rattle.laws.specs.Adds.{after-step-adds}
 use Rattle.laws.specs.Counts.{reserved-add, reserved-free, reserved-push, reserved-put, reserved-with, used-push, at-most-two}
@@ -54,7 +54,7 @@ unfolding stamp
 stamp-reserved s z now =
     let x : SideState = withStamps (side s z) (stamped (s .settings .window) now (side s z .stamps) (s .free)) in
     omega
-    (arith, reserved-free (withSide s z x) (tail (evicted (s .settings .window) now (side s z .stamps) (s .free))), reserved-with s z x)
+    (arith, reserved-free (withSide s z x) (tail (freeWithEvicted (s .settings .window) now (side s z .stamps) (s .free))), reserved-with s z x)
 
 tunnel-reserved : (s : State) (now : ℕ) (e : SimEvent) → reserved (stepTunnel s now (sentOf e) .state) ≡ reserved s
 tunnel-reserved s now e =

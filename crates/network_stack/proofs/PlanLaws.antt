@@ -9,7 +9,7 @@ use Rattle.rules.specs.Basics.{TunnelSent, kindOf}
 use Rattle.rules.specs.State.{State}
 use Rattle.rules.specs.Effects.{afterStep}
 use Rattle.rules.specs.ChoiceRound.{fits}
-use Rattle.rules.specs.NetworkStep.{packet, queueing, step, stepPadding, stepTunnel, unmoved}
+use Rattle.rules.specs.NetworkStep.{packet, queueing, stepFor, stepPadding, stepTunnel, unmoved}
 use Rattle.event.specs.HandedIn.{eventIn, sideOf}
 use Rattle.event.specs.declared.SimEvent.{SimEvent}
 use Rattle.network.specs.declared.padding.Padding.{Padding}
@@ -32,23 +32,23 @@ sendable e now h k = record { moment = h .moment; delay = h .delay; time = h .ti
 
 module _ (s : State) (now : ℕ) (e : SimEvent) where
   pub after-send : e .kind .0 ≡ 0 → afterOf s now e ≡ stepTunnel s now (sentOf e)
-  unfolding afterOf step
+  unfolding afterOf stepFor
   after-send k = ap (λ n. afterStep s now (eventIn e) (kindOf n)) k
 
   after-normal : e .kind .0 ≡ 1 → afterOf s now e ≡ queueing s false (packet TunnelSent (e .moment .0) (e .delay .0) (sideOf (e .client)) false false false)
-  unfolding afterOf step
+  unfolding afterOf stepFor
   after-normal k = ap (λ n. afterStep s now (eventIn e) (kindOf n)) k
 
   pub after-pad : e .kind .0 ≡ 2 → afterOf s now e ≡ stepPadding s now (paddedOf e)
-  unfolding afterOf step
+  unfolding afterOf stepFor
   after-pad k = ap (λ n. afterStep s now (eventIn e) (kindOf n)) k
 
   after-recv : e .kind .0 ≡ 3 → afterOf s now e ≡ queueing s true (receiptKind e)
-  unfolding afterOf step receiptKind
+  unfolding afterOf stepFor receiptKind
   after-recv k = ap (λ n. afterStep s now (eventIn e) (kindOf n)) k
 
   after-none : (e .kind .0 ≡ 0 → ⊥) → (e .kind .0 ≡ 1 → ⊥) → (e .kind .0 ≡ 2 → ⊥) → (e .kind .0 ≡ 3 → ⊥) → afterOf s now e ≡ unmoved s false
-  unfolding afterOf step
+  unfolding afterOf stepFor
   after-none a b c d = go (e .kind .0) a b c d
     where
       go : (n : ℕ) → (n ≡ 0 → ⊥) → (n ≡ 1 → ⊥) → (n ≡ 2 → ⊥) → (n ≡ 3 → ⊥) → afterStep s now (eventIn e) (kindOf n) ≡ unmoved s false

@@ -1,11 +1,11 @@
 -- The tag of an event or an aggregate is canonical for its chain, and what is queued under it is the event or aggregate. Assumes nothing.
 use Prim.Native.Nat.{ℕ, _+_, _*_, _%_, _<_, _≤_}
 use mathlib.Core.Path.{_≡_, refl, sym, ap, subst, _∙_}
-use mathlib.Core.Bool.{Bool, true, false, _||_}
+use mathlib.Core.Bool.{Bool, true, false}
 use mathlib.Core.List.{List}
 use mathlib.Core.Option.{Option, none, some, Option·map, Option·getD}
 use native.Mathlib.Omega.{arith}
-use lib.Dec.{eqb, ltb}
+use lib.Dec.{eqb}
 use borrow.Author.Tests.{eqb-true, eqb-false, ne-eqb, le-ltb}
 use Rattle.rules.specs.Basics.{if_then_else_, Side, client, server, Kind, TunnelSent, kindOf, hasMachine}
 use Rattle.rules.specs.State.{base, blocking, bypassable, internal}
@@ -21,7 +21,7 @@ use Rattle.layout.specs.Layout.{eventFrom, aggregateFrom, stateOf}
 use Rattle.layout.specs.Shape.{EventShape, RecordShape}
 use Rattle.layout.specs.Changes.{sideNo, chainNo}
 use Rattle.queue_event.proofs.Fields.{bit-flag, event-mark, event-kind, event-padding, event-bypass, event-replace, event-side, event-machine, event-small, aggregate-mark}
-use Rattle.layout.proofs.Order.{rank-kind}
+use Rattle.layout.proofs.Order.{chain-kind, machine-kind}
 use Rattle.queue.specs.Changes.{Leaves, MayTake, Queued}
 use Rattle.queue.specs.Pushes.{chainPlace, Canonical, MayPush, MayAdd}
 use Rattle.queue.proofs.States.{recOf, changed-leaves}
@@ -92,7 +92,7 @@ machine-is n = go (kindOf n)
 
 no-machine : (k : ℕ) → k ≤ 9 → (k ≡ 2 → ⊥) → (k ≡ 6 → ⊥) → k ≤ 7 → hasMachineNo k ≡ false
 no-machine k l a b c =
-    machine-is k ∙ ap (λ (r : ℕ). eqb r 2 || eqb r 6 || ltb 7 r) (rank-kind k (omega arith)) ∙ rw (ne-eqb k 2 a, ne-eqb k 6 b, le-ltb 7 k c)
+    machine-is k ∙ machine-kind k (omega arith) ∙ rw (ne-eqb k 2 a, ne-eqb k 6 b, le-ltb 7 k c)
 
 by-cases : (z : Side) (k : ℕ) (b : Bool) → chainNo z (if eqb k 0 then if b then bypassable else blocking else if eqb k 1 then base else internal) ≡ chainPlace k b + 5 * sideNo z
 unfolding chainPlace
@@ -177,7 +177,7 @@ module _ (e : SimEvent) (can : Canonical e) (k : ℕ) (small : k ≤ 10) (ek : k
   -- the chain's number, and the event read back
   chain-no : chainNo (sideOf (e .client)) (chainOf (eventValue e)) ≡ k
   chain-no =
-      ap (λ (r : ℕ). chainNo (sideOf (e .client)) (if eqb r 0 then if e .bypass then bypassable else blocking else if eqb r 1 then base else internal)) (rank-kind (e .kind .0) (omega (arith, can .kind)))
+      ap (chainNo (sideOf (e .client))) (chain-kind (e .bypass) (e .kind .0) (omega (arith, can .kind)))
       ∙ by-cases (sideOf (e .client)) (e .kind .0) (e .bypass) ∙ sym ek
 
   event-back : eventFrom (sideOf (e .client)) (recOf (e .moment .0) (e .delay .0) tagged) ≡ eventValue e

@@ -10,7 +10,7 @@ use Rattle.rules.specs.Basics.{if_then_else_, Side, client, server}
 use Rattle.rules.specs.State.{Event, Held, SideState, State, inRecord, freePlace, side, withSide, withStamps, withFree}
 use Rattle.rules.specs.ChoiceHeads.{Head}
 use Rattle.rules.specs.ChoiceRound.{liftEvent, popSide, takeEvent}
-use Rattle.rules.specs.NetworkStep.{evict, evicted, stamp}
+use Rattle.rules.specs.NetworkStep.{stampsKept, freeWithEvicted, stamp}
 use Rattle.rules.specs.Queueing.{pushEvent, putEvent}
 use Rattle.queue_event.specs.Tag.{markOf, stampTag}
 use Rattle.layout.specs.Layout.{stateOf}
@@ -24,19 +24,19 @@ use Rattle.queue.proofs.Queueing.{appended-stamp}
 -- ---- the first stamp
 
 module _ (window now : ℕ) where
-  evict-stale : (l : List (Held ℕ)) → staleFirst window now l ≡ true → evict window now (tail l) ≡ evict window now l
+  evict-stale : (l : List (Held ℕ)) → staleFirst window now l ≡ true → stampsKept window now (tail l) ≡ stampsKept window now l
   evict-stale [] e = refl
   evict-stale (t ∷ l) e = rw e
 
-  evicted-stale : (l : List (Held ℕ)) (f : List ℕ) → staleFirst window now l ≡ true → evicted window now (tail l) (firstPlace l ∷ f) ≡ evicted window now l f
+  evicted-stale : (l : List (Held ℕ)) (f : List ℕ) → staleFirst window now l ≡ true → freeWithEvicted window now (tail l) (firstPlace l ∷ f) ≡ freeWithEvicted window now l f
   evicted-stale [] f e = absurd (false≢true e)
   evicted-stale (t ∷ l) f e = rw e
 
-  evict-fresh : (l : List (Held ℕ)) → staleFirst window now l ≡ false → l ≡ evict window now l
+  evict-fresh : (l : List (Held ℕ)) → staleFirst window now l ≡ false → l ≡ stampsKept window now l
   evict-fresh [] e = refl
   evict-fresh (t ∷ l) e = rw e
 
-  evicted-fresh : (l : List (Held ℕ)) (f : List ℕ) → staleFirst window now l ≡ false → f ≡ evicted window now l f
+  evicted-fresh : (l : List (Held ℕ)) (f : List ℕ) → staleFirst window now l ≡ false → f ≡ freeWithEvicted window now l f
   evicted-fresh [] f e = refl
   evicted-fresh (t ∷ l) f e = rw e
 

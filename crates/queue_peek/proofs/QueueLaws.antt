@@ -19,7 +19,7 @@ use Rattle.queue.specs.declared.peek.Head.{Head}
 use Rattle.queue.specs.declared.peek.Found.{Found}
 use Rattle.queue.specs.declared.peek.Found.the-variants.{Nothing, At}
 use Rattle.queue.specs.Heads.{chainAt, headFrom, foundOf, sideHeld, HeadOk, Stands}
-use Rattle.layout.proofs.Order.{rank-kind}
+use Rattle.layout.proofs.Order.{sent-kind}
 use Rattle.queue.proofs.HeadsOrder.{stands-at}
 use Rattle.queue_peek.specs.declared.order.Delay.the-variants.{Absent, In}
 use Rattle.queue_peek.specs.Decoded.{delayOf}
@@ -48,7 +48,7 @@ module _ (h : List ℕ) (e : SimEvent) where
 
   pub held-other : e .kind .0 ≤ 9 → (e .kind .0 ≡ 0 → ⊥) → (rs : List ℕ) → false ≡ heldBack (sideHeld h rs (e .client)) (eventValue e)
   unfolding tests
-  held-other k d rs = sym (ap (λ x. tests x (isSome (sideHeld h rs (e .client) .blockEnd)) (e .bypass) (sideHeld h rs (e .client) .blockBypassable)) (ap (λ n. eqb n 0) (rank-kind (e .kind .0) (omega arith)) ∙ ne-eqb (e .kind .0) 0 d)) ∙ held-is rs
+  held-other k d rs = sym (ap (λ x. tests x (isSome (sideHeld h rs (e .client) .blockEnd)) (e .bypass) (sideHeld h rs (e .client) .blockBypassable)) (sent-kind (e .kind .0) (omega arith) ∙ ne-eqb (e .kind .0) 0 d)) ∙ held-is rs
 
   module _ (z : e .kind .0 ≡ 0) (s : Bool) (es : (rs : List ℕ) → s ≡ isSome (sideHeld h rs (e .client) .blockEnd)) where
     packet : true ≡ isTunnelSent (kindAt (e .kind .0))

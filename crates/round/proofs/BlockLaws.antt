@@ -15,7 +15,7 @@ use Rattle.rules.specs.Queueing.{pushEvent}
 use Rattle.rules.specs.Aggregates.{aggregatesOf, addAggregate, addAggregates}
 use Rattle.rules.specs.ChoiceDelays.{Block}
 use Rattle.rules.specs.ChoiceHeads.{waitingHead}
-use Rattle.rules.specs.ChoiceRound.{RoundOutcome, next, taken, clearBlock, endAggregates, endBlock, endEvent, endMoment, heldUp}
+use Rattle.rules.specs.ChoiceRound.{RoundOutcome, next, taken, clearBlock, endAggregates, endBlock, endEvent, endMoment, heldUpLength}
 use Rattle.rules.specs.Choice.{event}
 use Rattle.laws.specs.Accepted.{Accepted as HeldAccepted}
 use Rattle.laws.specs.Counts.{at-most-two}
@@ -106,7 +106,7 @@ module _ (w : List ℕ) (now : ℕ) (k : BlockEnd) (due : BlockDue w now k) wher
   end-limit : k .end .0 ≤ momentLimit
   end-limit = subst EndOk (due .set) (sound-side (held .sound) (sideOf (k .client)) .end)
 
-  module _ (end : Moment) (ee : end .0 ≡ max (k .end .0) now) (by : Delayed) (eb : delayedOf by ≡ heldUp (side (stateOf w) (sideOf (k .client))) (end .0) (waitingHead false (side (stateOf w) (sideOf (k .client)))))
+  module _ (end : Moment) (ee : end .0 ≡ max (k .end .0) now) (by : Delayed) (eb : delayedOf by ≡ heldUpLength (side (stateOf w) (sideOf (k .client))) (end .0) (waitingHead false (side (stateOf w) (sideOf (k .client)))))
       (w₁ : List ℕ) (c : Becomes w w₁ (unblocked (stateOf w) (sideOf (k .client)))) (d : Length) (ed : d .0 ≡ stateOf w₁ .settings .networkDelay) where
     delay-is : d .0 ≡ stateOf w .settings .networkDelay
     delay-is = ed ∙ ap (λ (s : State). s .settings .networkDelay) (c .state) ∙ network-same (stateOf w) (sideOf (k .client))
@@ -132,7 +132,7 @@ module _ (w : List ℕ) (now : ℕ) (k : BlockEnd) (due : BlockDue w now k) wher
         (λ i.
         addAggregates (c .state i)
         (aggregatesOf (delay-is i) (sideOf (k .client)) (end-is i)
-        ((eb ∙ ap (λ (t : ℕ). heldUp (side (stateOf w) (sideOf (k .client))) t (waitingHead false (side (stateOf w) (sideOf (k .client))))) end-is) i))) (leaves-becomes w₁ w₂ _ l))
+        ((eb ∙ ap (λ (t : ℕ). heldUpLength (side (stateOf w) (sideOf (k .client))) t (waitingHead false (side (stateOf w) (sideOf (k .client))))) end-is) i))) (leaves-becomes w₁ w₂ _ l))
 
   -- ---- `BlockingEnd`
 

@@ -3,7 +3,7 @@ ghost use mathlib.Core.Path.{_≡_};
 ghost use mathlib.Core.Bool.{false as no};
 ghost use Prim.Native.Nat.{_+_, _^_, _<_};
 ghost use Rattle.rules.specs.ChoiceHeads.{waitingHead};
-ghost use Rattle.rules.specs.ChoiceRound.{clearBlock, endBlock, heldUp};
+ghost use Rattle.rules.specs.ChoiceRound.{clearBlock, endBlock, heldUpLength};
 ghost use Rattle.rules.specs.State.{side};
 ghost use Rattle.event.specs.HandedIn.{sideOf};
 ghost use Rattle.layout.specs.Accepted.{Accepted};
@@ -28,7 +28,7 @@ use queue_peek::blocks::BlockEnd;
 
 fn held_up_in(block: &[u64], client: bool, end: Moment) -> Delayed
     requires { ⌜ Accepted (now block) ⌝ }
-    ensures { λ r. ⌜ delayedOf r ≡ heldUp (side (stateOf (now (block .entry))) (sideOf client)) (end .0) (waitingHead no (side (stateOf (now (block .entry))) (sideOf client))) ⌝ }
+    ensures { λ r. ⌜ delayedOf r ≡ heldUpLength (side (stateOf (now (block .entry))) (sideOf client)) (end .0) (waitingHead no (side (stateOf (now (block .entry))) (sideOf client))) ⌝ }
 {
     sums::held_up(&block[..256], &block[256..], client, end)
 }

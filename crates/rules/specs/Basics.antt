@@ -84,8 +84,26 @@ kindOf n =
 
 -- kind 0
 abbrev pub isTunnelSent : Kind → Bool
-isTunnelSent k = eqb (rank k) 0
+isTunnelSent TunnelSent = true
+isTunnelSent NormalSent = false
+isTunnelSent PaddingSent = false
+isTunnelSent TunnelRecv = false
+isTunnelSent NormalRecv = false
+isTunnelSent PaddingRecv = false
+isTunnelSent BlockingBegin = false
+isTunnelSent BlockingEnd = false
+isTunnelSent TimerBegin = false
+isTunnelSent TimerEnd = false
 
 -- "Kinds 0, 1, 3, 4, 5 and 7 have no machine": 2, 6, 8 and 9 have one
 abbrev pub hasMachine : Kind → Bool
-hasMachine k = eqb (rank k) 2 || eqb (rank k) 6 || ltb 7 (rank k)
+hasMachine TunnelSent = false
+hasMachine NormalSent = false
+hasMachine PaddingSent = true
+hasMachine TunnelRecv = false
+hasMachine NormalRecv = false
+hasMachine PaddingRecv = false
+hasMachine BlockingBegin = true
+hasMachine BlockingEnd = false
+hasMachine TimerBegin = true
+hasMachine TimerEnd = true

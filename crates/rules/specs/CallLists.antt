@@ -59,11 +59,6 @@ workRounds s (sim-network-stack now r) = 0
 abbrev pub roundsOf : State → Call → ℕ
 roundsOf s c = if isSome (refusal s c) then 0 else workRounds s c
 
--- the rounds made in a list
-abbrev pub roundsMade : State → List Call → ℕ
-roundsMade s [] = 0
-roundsMade s (c ∷ l) = roundsOf s c + roundsMade (call s c .state) l
-
 -- the rounds that an answer carries
 abbrev pub carried : Answer → ℕ
 carried done = 0
@@ -92,10 +87,6 @@ allowanceOf (set-timer z t) = 1
 allowanceOf (clear-timer z) = 0
 allowanceOf (pick-next now) = 1
 allowanceOf (sim-network-stack now r) = 2
-
-abbrev pub allowance : State → List Call → ℕ
-allowance s [] = 0
-allowance s (c ∷ l) = (if isRefused (call s c .answer) then 0 else allowanceOf c) + allowance (call s c .state) l
 
 -- ---- room: "A choice lacks room unless used + reserved is at most R as it begins and after each round it finishes."
 

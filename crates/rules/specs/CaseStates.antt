@@ -16,13 +16,13 @@ use Rattle.rules.specs.ChoiceHeads.{earliestBlocked, earliestOfSide, fir
 use Rattle.rules.specs.Opening.{openRefusal, opened, outside}
 use Rattle.rules.specs.Queueing.{pushEvent, putEvent}
 use Rattle.rules.specs.Refusals.{refusal, table}
-use Rattle.rules.specs.NetworkStep.{replaceBy, stamp, step, stepPadding, stepTunnel}
+use Rattle.rules.specs.NetworkStep.{replaceBy, stamp, stepPadding, stepTunnel, stepFor}
 use Rattle.rules.specs.Effects.{setTimer}
 use Rattle.rules.specs.CallLists.{afterAll, answers}
 
 -- what computes in a case: every rule
 unfoldable pub rules : Unit {0}
-unfolding choose rounds round candidate delays offered peekQueue queueHead sideHead headAs firstBy waitingHead passingHead earliestOfSide earliestBlocked alwaysSums roundSums fits roundsLeft used reserved putEvent pushEvent addAggregate addAggregates aggregatesOf onExpire onReplace onDelayed takeAggregate clearBlock liftEvent takeEvent clearTimer clearAction stamp doAction setTimer opened step stepTunnel stepPadding replaceBy call work table refusal openRefusal outside
+unfolding choose rounds round candidate delays offered peekQueue queueHead sideHead headAs firstBy waitingHead passingHead earliestOfSide earliestBlocked alwaysSums roundSums fits roundsLeft used reserved putEvent pushEvent addAggregate addAggregates aggregatesOf onExpire onReplace onDelayed takeAggregate clearBlock liftEvent takeEvent clearTimer clearAction stamp doAction setTimer opened stepFor stepTunnel stepPadding replaceBy call work table refusal openRefusal outside
 rules = tt
 
 -- ---- states

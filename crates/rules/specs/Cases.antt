@@ -4,13 +4,13 @@ use mathlib.Core.Path.{_≡_, refl}
 use mathlib.Core.Bool.{false, true}
 use mathlib.Core.Option.{none, some}
 use lib.ListN.{length}
-use Rattle.rules.specs.State.{BlockOutgoing, withFree}
+use Rattle.rules.specs.State.{BlockOutgoing, withFree, Event}
 use Rattle.rules.specs.Basics.{BlockingBegin, BlockingEnd, NormalSent, PaddingRecv, TimerEnd, TunnelSent, client, server}
 use Rattle.rules.specs.Arguments.{Call, pick-next}
 use Rattle.rules.specs.CallLists.{afterAll}
-use Rattle.rules.specs.CaseStates.{aggregate, anEventIn, blocked, fresh, nothingIn, openDelay, openWith, pendingIn, plain, queuedIn, rules, stampAt, withAction, withSums, withTimer}
+use Rattle.rules.specs.CaseStates.{aggregate, anEventIn, blocked, fresh, nothingIn, openDelay, openWith, pendingIn, plain, queuedIn, rules, stampAt, withAction, withSums, withTimer, values}
 use Rattle.rules.specs.Calls.{call}
-use Rattle.rules.specs.NetworkStep.{extraOver, packet, rateOf}
+use Rattle.rules.specs.NetworkStep.{packet}
 use Rattle.rules.specs.Opening.{upFrom}
 
 pub record Starred : Type 0 where
@@ -50,8 +50,13 @@ pub record Starred : Type 0 where
       (λ (l : List Call). length (afterAll (openWith 0 none 10) l .client .stamps))
       ((stampAt 100 ∷ []) ∷ (stampAt 100 ∷ stampAt 110 ∷ []) ∷ (stampAt 100 ∷ stampAt 110 ∷ stampAt 111 ∷ []) ∷ [])
       ≡ 1 ∷ 2 ∷ 2 ∷ []
-  -- Window 10^9, rate 3, count 5: extra 666,666,666.
-  pub extra : extraOver 1_000_000_000 5 (rateOf (some 3) none) ≡ 666_666_666
+  -- Window 10^9, rate 3, count 5: extra 666,666,666. Five steps at 100, and the moments at which the server receives them: counts 4 and 5 are
+  -- above the limit.
+  pub extra :
+      map
+      (λ (e : Event). e .moment)
+      (values (afterAll (openWith 0 (some 3) 1_000_000_000) (stampAt 100 ∷ stampAt 100 ∷ stampAt 100 ∷ stampAt 100 ∷ stampAt 100 ∷ []) .server .queues .internal))
+      ≡ 100 ∷ 100 ∷ 100 ∷ 333_333_433 ∷ 666_666_766 ∷ []
   -- Client base at 100, sum 5, client `PaddingRecv` at 105: base, moment 105.
   pub base-first :
       call (queuedIn (queuedIn (withSums fresh 5 0) (plain PaddingRecv 105 client 0)) (plain NormalSent 100 client 0)) (pick-next 100)

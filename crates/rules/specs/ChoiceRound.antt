@@ -128,10 +128,11 @@ endEvent s now k =
     let r : ℕ = side s (k .side) .fixed .reportingDelay in
     record { kind = BlockingEnd; moment = endMoment now k + r; delay = r; side = k .side; padding = false; bypass = false; replace = false; machine = 0 }
 
--- "If the side's first waiting `TunnelSent` (either queue) is before the end moment, test for an aggregate"
-abbrev pub heldUp : SideState → ℕ → Option Head → Option ℕ
-heldUp x end none = none
-heldUp x end (some h) = if ltb (h .moment) end then onExpire x end (h .moment) else none
+-- "If the side's first waiting `TunnelSent` (either queue) is before the end moment, test for an aggregate":
+-- its length, if there is one
+abbrev pub heldUpLength : SideState → ℕ → Option Head → Option ℕ
+heldUpLength x end none = none
+heldUpLength x end (some h) = if ltb (h .moment) end then onExpire x end (h .moment) else none
 
 abbrev pub endAggregates : State → ℕ → Block → List Aggregate
 endAggregates s now k =
@@ -139,7 +140,7 @@ endAggregates s now k =
     (s .settings .networkDelay)
     (k .side)
     (endMoment now k)
-    (heldUp (side s (k .side)) (endMoment now k) (waitingHead false (side s (k .side))))
+    (heldUpLength (side s (k .side)) (endMoment now k) (waitingHead false (side s (k .side))))
 
 -- "clear that block"; its bypassable flag stays
 unfoldable pub clearBlock : State → ℕ → Block → State

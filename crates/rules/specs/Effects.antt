@@ -28,4 +28,4 @@ afterSetAction s z r (some k) =
 -- the step, with the answer and the sums that it forms
 abbrev pub afterStep : State → ℕ → EventIn → Option Kind → Stepped
 afterStep s now r none = record { answer = false; state = s; sums = [] }
-afterStep s now r (some k) = step s now (eventOf r k) k
+afterStep s now r (some k) = step s now (eventOf r k)

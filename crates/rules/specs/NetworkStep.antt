@@ -63,26 +63,26 @@ stepPadding s now e =
 
 -- ---- `TunnelSent`
 
--- `WindowCount::add`: the oldest stamps that are more than the window old go; one whose age equals the window stays
-abbrev pub evict : ℕ → ℕ → List (Held ℕ) → List (Held ℕ)
-evict window now [] = []
-evict window now (t ∷ l) = if ltb window (now - t .value) then evict window now l else t ∷ l
+-- `WindowCount::add`: the oldest stamps that are more than the window old go, and these are kept; one whose age equals the window stays
+abbrev pub stampsKept : ℕ → ℕ → List (Held ℕ) → List (Held ℕ)
+stampsKept window now [] = []
+stampsKept window now (t ∷ l) = if ltb window (now - t .value) then stampsKept window now l else t ∷ l
 
--- their records are given back, the oldest first
-abbrev pub evicted : ℕ → ℕ → List (Held ℕ) → List ℕ → List ℕ
-evicted window now [] f = f
-evicted window now (t ∷ l) f = if ltb window (now - t .value) then evicted window now l (t .place ∷ f) else f
+-- the free records with those of the stamps that go: given back, the oldest first
+abbrev pub freeWithEvicted : ℕ → ℕ → List (Held ℕ) → List ℕ → List ℕ
+freeWithEvicted window now [] f = f
+freeWithEvicted window now (t ∷ l) f = if ltb window (now - t .value) then freeWithEvicted window now l (t .place ∷ f) else f
 
 -- then the new stamp takes one; "stamps by arrival"
 abbrev pub stamped : ℕ → ℕ → List (Held ℕ) → List ℕ → List (Held ℕ)
-stamped window now l f = evict window now l ++ (inRecord (freePlace (evicted window now l f)) now ∷ [])
+stamped window now l f = stampsKept window now l ++ (inRecord (freePlace (freeWithEvicted window now l f)) now ∷ [])
 
 -- "`TunnelSent` adds a stamp first": the step's time
 unfoldable pub stamp : State → Side → ℕ → State
 stamp s z now =
     let x : SideState = side s z in
     let w : ℕ = s .settings .window in
-    withFree (withSide s z (withStamps x (stamped w now (x .stamps) (s .free)))) (tail (evicted w now (x .stamps) (s .free)))
+    withFree (withSide s z (withStamps x (stamped w now (x .stamps) (s .free)))) (tail (freeWithEvicted w now (x .stamps) (s .free)))
 
 -- "Network rate, else queue rate, else no limit."
 abbrev pub rateOf : Option ℕ → Option ℕ → Option ℕ
@@ -118,15 +118,19 @@ stepTunnel s now e =
 
 -- ---- the step: yes for `TunnelSent` and `TunnelRecv`, else no
 
-unfoldable pub step : State → ℕ → Event → Kind → Stepped
-step s now e TunnelSent = stepTunnel s now e
-step s now e NormalSent = queueing s false (packet TunnelSent (e .moment) (e .delay) (e .side) false false false)
-step s now e PaddingSent = stepPadding s now e
-step s now e TunnelRecv =
+unfoldable pub stepFor : Kind → State → ℕ → Event → Stepped
+stepFor TunnelSent s now e = stepTunnel s now e
+stepFor NormalSent s now e = queueing s false (packet TunnelSent (e .moment) (e .delay) (e .side) false false false)
+stepFor PaddingSent s now e = stepPadding s now e
+stepFor TunnelRecv s now e =
     queueing s true (packet (if e .padding then PaddingRecv else NormalRecv) (e .moment) (e .delay) (e .side) (e .padding) false false)
-step s now e NormalRecv = unmoved s false
-step s now e PaddingRecv = unmoved s false
-step s now e BlockingBegin = unmoved s false
-step s now e BlockingEnd = unmoved s false
-step s now e TimerBegin = unmoved s false
-step s now e TimerEnd = unmoved s false
+stepFor NormalRecv s now e = unmoved s false
+stepFor PaddingRecv s now e = unmoved s false
+stepFor BlockingBegin s now e = unmoved s false
+stepFor BlockingEnd s now e = unmoved s false
+stepFor TimerBegin s now e = unmoved s false
+stepFor TimerEnd s now e = unmoved s false
+
+-- `sim_network_stack`
+abbrev pub step : State → ℕ → Event → Stepped
+step s now e = stepFor (e .kind) s now e

@@ -1,15 +1,24 @@
 -- Document 01, "The state": the chain that an event goes to, its place there, and the record that it takes.
 use mathlib.Core.Bool.{Bool}
 use mathlib.Core.List.{List, [], _∷_, tail}
-use lib.Dec.{eqb}
 use Rattle.rules.specs.State.{Chain, Event, Held, SideState, State, base, blocking, bypassable, freePlace, inRecord, internal, queue, side, withFree, withQueue, withQueues, withSide}
-use Rattle.rules.specs.Basics.{before, if_then_else_, isTunnelSent, rank}
+use Rattle.rules.specs.Basics.{before, if_then_else_, rank, BlockingBegin, BlockingEnd, Kind, NormalRecv, NormalSent, PaddingRecv, PaddingSent, TimerBegin, TimerEnd, TunnelRecv, TunnelSent}
 
 -- "`TunnelSent` goes to bypassable if its bypass flag is set, else to blocking; `NormalSent` to base; all else to internal."
+abbrev pub chainFor : Kind → Bool → Chain
+chainFor TunnelSent flag = if flag then bypassable else blocking
+chainFor NormalSent flag = base
+chainFor PaddingSent flag = internal
+chainFor TunnelRecv flag = internal
+chainFor NormalRecv flag = internal
+chainFor PaddingRecv flag = internal
+chainFor BlockingBegin flag = internal
+chainFor BlockingEnd flag = internal
+chainFor TimerBegin flag = internal
+chainFor TimerEnd flag = internal
+
 abbrev pub chainOf : Event → Chain
-chainOf e =
-    if isTunnelSent (e .kind) then if e .bypass then bypassable else blocking
-    else if eqb (rank (e .kind)) 1 then base else internal
+chainOf e = chainFor (e .kind) (e .bypass)
 
 -- the order within a chain, "by moment, then rank": whether a newly arrived event goes before one that is there
 abbrev pub goesBefore : Event → Event → Bool

@@ -40,7 +40,7 @@ delayAboveMoment r = eqb (r .kind) 0 && not (r .padding) && ltb (r .moment) (r .
 abbrev pub full : State → Bool
 full s = ltb (s .room) (used s + reserved s)
 
--- the table. Kind 6 is "event kind above 9, or action not `SendPadding` or `BlockOutgoing`"
+-- the table. Number 6 is "event kind above 9, or action not `SendPadding` or `BlockOutgoing`"
 unfoldable pub table : State → Call → List (ℕ × Bool)
 table s (push r) =
     (3, s .ended)
@@ -65,13 +65,13 @@ table s (set-timer z t) =
     ∷ []
 table s (clear-timer z) = (3, s .ended) ∷ (5, noMachine s z) ∷ []
 table s (pick-next now) = (3, s .ended) ∷ (7, ltb momentLimit now) ∷ []
-table s (sim-network-stack now r) =
+table s (sim-network-stack now e) =
     (3, s .ended)
-    ∷ (5, eventNoMachine s r)
-    ∷ (6, ltb 9 (r .kind))
-    ∷ (7, ltb momentLimit now || eventTooLarge r)
-    ∷ (8, delayAboveMoment r)
-    ∷ (9, full (afterStep s now r (kindOf (r .kind)) .state))
+    ∷ (5, eventNoMachine s e)
+    ∷ (6, ltb 9 (e .kind))
+    ∷ (7, ltb momentLimit now || eventTooLarge e)
+    ∷ (8, delayAboveMoment e)
+    ∷ (9, full (afterStep s now e (kindOf (e .kind)) .state))
     ∷ []
 
 -- the number that refuses the call before its work, if any

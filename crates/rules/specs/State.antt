@@ -202,6 +202,20 @@ used s = sideUsed (s .client) + sideUsed (s .server) + length (s .aggregates)
 unfoldable pub reserved : State → ℕ
 reserved s = sideReserved (s .client) + sideReserved (s .server)
 
--- A + 3B + T + 4S of demand 3: aggregates, blocked sides, timers and actions held
+-- A, B, T and S of demand 3: "the aggregates in their chain, the sides with a block end, the slots that hold a timer, the slots that hold an
+-- action, whatever their moments"
+abbrev pub aggregatesPending : State → ℕ
+aggregatesPending s = length (s .aggregates)
+
+abbrev pub sidesBlocked : State → ℕ
+sidesBlocked s = one (s .client .blockEnd) + one (s .server .blockEnd)
+
+abbrev pub timersHeld : State → ℕ
+timersHeld s = held (s .client .timers) + held (s .server .timers)
+
+abbrev pub actionsHeld : State → ℕ
+actionsHeld s = held (s .client .actions) + held (s .server .actions)
+
+-- A + 3B + T + 4S
 unfoldable pub roundsLeft : State → ℕ
-roundsLeft s = length (s .aggregates) + (sideReserved (s .client) + sideReserved (s .server))
+roundsLeft s = aggregatesPending s + 3 * sidesBlocked s + timersHeld s + 4 * actionsHeld s

@@ -5,27 +5,36 @@ use mathlib.Core.Option.{Option, none, some}
 use mathlib.Core.List.{[], _∷_, map}
 use mathlib.Core.Path.{_≡_, refl}
 use mathlib.Core.Bool.{false, true}
-use Rattle.rules.specs.Arguments.{ActionIn, Call, EventIn, pick-next, push, set-action, set-timer, sim-network-stack}
+use Rattle.rules.specs.Arguments.{ActionIn, Call, EventIn, pick-next, push, set-action, set-timer, sim-network-stack, clear-action, clear-timer}
 use Rattle.rules.specs.Choice.{Answer, done, no-step, nothing-left, refused, yes-step}
-use Rattle.rules.specs.State.{BlockOutgoing, Fixed, SendPadding, State, withEnded, withRounds}
-use Rattle.rules.specs.Basics.{NormalSent, Side, client}
+use Rattle.rules.specs.State.{BlockOutgoing, Fixed, SendPadding, State, withEnded, withRounds, ActionKind}
+use Rattle.rules.specs.Basics.{NormalSent, Side, client, server}
 use Rattle.rules.specs.Opening.{Opening, openRefusal, opened}
 use Rattle.rules.specs.ChoiceRound.{Slot}
 use Rattle.rules.specs.Calls.{call}
-use Rattle.rules.specs.CaseStates.{fresh, plain, queuedIn, refusedIn, rules, withAction}
+use Rattle.rules.specs.CaseStates.{fresh, plain, queuedIn, refusedIn, rules, withAction, withTimer}
 
 -- ---- what they begin from
 
--- no machines and no rate; R is 1
-abbrev noMachines : Fixed
-noMachines = record { actionDelay = 0; reportingDelay = 0; machines = 0 }
+-- what opening fixes for a side: action delay, reporting delay, machines
+abbrev fixedAs : ℕ → ℕ → ℕ → Fixed
+fixedAs a r m = record { actionDelay = a; reportingDelay = r; machines = m }
 
-abbrev opensWith : Option ℕ → Option ℕ → ℕ → ℕ → Fixed → Opening
-opensWith nr qr d w f =
-    record { settings = record { networkDelay = d; networkRate = nr; queueRate = qr; window = w }; client = f; server = noMachines }
+abbrev noMachines : Fixed
+noMachines = fixedAs 0 0 0
+
+-- opened with network rate, queue rate, network delay and window, no delay and no machine on either side
+abbrev opensWith : Option ℕ → Option ℕ → ℕ → ℕ → Opening
+opensWith nr qr d w =
+    record { settings = record { networkDelay = d; networkRate = nr; queueRate = qr; window = w }; client = noMachines; server = noMachines }
 
 abbrev plainOpening : Opening
-plainOpening = opensWith none none 0 0 noMachines
+plainOpening = opensWith none none 0 0
+
+-- opened with what is fixed for one side, the other has no delay and no machine
+abbrev opensSide : Side → Fixed → Opening
+opensSide client f = record { settings = plainOpening .settings; client = f; server = noMachines }
+opensSide server f = record { settings = plainOpening .settings; client = noMachines; server = f }
 
 -- opened over 260 words: one record, no machine
 abbrev tiny : State
@@ -44,6 +53,14 @@ eventFor k t d m = record { kind = k; moment = t; delay = d; side = client; padd
 abbrev actionFor : ℕ → ℕ → ℕ → ActionIn
 actionFor k t d = record { kind = k; moment = t; duration = d; bypass = false; replace = false }
 
+-- a client action that a slot holds: its kind, moment and duration
+abbrev holding : State → ActionKind → ℕ → ℕ → State
+holding s k t d = withAction s client 0 (record { kind = k; moment = t; duration = d; bypass = false; replace = false })
+
+-- the block action that gives 10: it would end at 2^62
+abbrev lastBlock : State
+lastBlock = holding fresh BlockOutgoing 4_611_686_018_427_387_903 1
+
 -- the answer of a call
 abbrev told : State → Call → Answer
 told s c = call s c .answer
@@ -54,36 +71,40 @@ pub record TableInputs : Type 0 where
   -- 1: 0 words; and the lengths about R = 1 and R = 65,535
   pub one : map (λ (words : ℕ). openRefusal words plainOpening) (0 ∷ 256 ∷ 259 ∷ 261 ∷ 262_400 ∷ []) ≡ some 1 ∷ some 1 ∷ some 1 ∷ some 1 ∷ some 1 ∷ []
   pub lengths : map (λ (words : ℕ). openRefusal words plainOpening) (260 ∷ 264 ∷ 262_396 ∷ []) ≡ none ∷ none ∷ none ∷ []
-  -- 3: a choice after a 10
-  pub three : call (withEnded fresh true) (pick-next 100) ≡ refusedIn 3 (withEnded fresh true)
+  -- 3: a choice after a 10: the first of two choices gives it, the second gets the state as that left it
+  pub three :
+      (told lastBlock (pick-next 100) ≡ refused 10 0)
+      × (call (call lastBlock (pick-next 100) .state) (pick-next 100) ≡ refusedIn 3 (withEnded lastBlock true))
   -- 4: rate 0. Rates 1 and 4,294,967,295 are within, 4,294,967,296 is not, also as the queue rate beside a network rate
   pub four :
-      map (λ (rate : ℕ). openRefusal 260 (opensWith (some rate) none 0 0 noMachines)) (0 ∷ 1 ∷ 4_294_967_295 ∷ 4_294_967_296 ∷ [])
+      map (λ (rate : ℕ). openRefusal 260 (opensWith (some rate) none 0 0)) (0 ∷ 1 ∷ 4_294_967_295 ∷ 4_294_967_296 ∷ [])
       ≡ some 4 ∷ none ∷ none ∷ some 4 ∷ []
   pub four-queue :
-      map (λ (rate : ℕ). openRefusal 260 (opensWith (some 1) (some rate) 0 0 noMachines)) (0 ∷ 1 ∷ 4_294_967_295 ∷ 4_294_967_296 ∷ [])
+      map (λ (rate : ℕ). openRefusal 260 (opensWith (some 1) (some rate) 0 0)) (0 ∷ 1 ∷ 4_294_967_295 ∷ 4_294_967_296 ∷ [])
       ≡ some 4 ∷ none ∷ none ∷ some 4 ∷ []
-  pub four-delay : map (λ (d : ℕ). openRefusal 260 (opensWith none none d 0 noMachines)) (1_000_000_000_000 ∷ 1_000_000_000_001 ∷ []) ≡ none ∷ some 4 ∷ []
-  pub four-window : map (λ (w : ℕ). openRefusal 260 (opensWith none none 0 w noMachines)) (1_000_000_000_000 ∷ 1_000_000_000_001 ∷ []) ≡ none ∷ some 4 ∷ []
+  pub four-delay : map (λ (d : ℕ). openRefusal 260 (opensWith none none d 0)) (1_000_000_000_000 ∷ 1_000_000_000_001 ∷ []) ≡ none ∷ some 4 ∷ []
+  pub four-window : map (λ (w : ℕ). openRefusal 260 (opensWith none none 0 w)) (1_000_000_000_000 ∷ 1_000_000_000_001 ∷ []) ≡ none ∷ some 4 ∷ []
+  -- and what it fixes for a side: the client's values, and all of the server's
   pub four-action-delay :
-      map
-      (λ (d : ℕ). openRefusal 260 (opensWith none none 0 0 (record { actionDelay = d; reportingDelay = 0; machines = 0 })))
-      (1_000_000_000_000 ∷ 1_000_000_000_001 ∷ [])
-      ≡ none ∷ some 4 ∷ []
+      map (λ (d : ℕ). openRefusal 260 (opensSide client (fixedAs d 0 0))) (1_000_000_000_000 ∷ 1_000_000_000_001 ∷ []) ≡ none ∷ some 4 ∷ []
   pub four-reporting-delay :
+      map (λ (d : ℕ). openRefusal 260 (opensSide client (fixedAs 0 d 0))) (1_000_000_000_000 ∷ 1_000_000_000_001 ∷ []) ≡ none ∷ some 4 ∷ []
+  pub four-machines : map (λ (m : ℕ). openRefusal 260 (opensSide client (fixedAs 0 0 m))) (16 ∷ 17 ∷ []) ≡ none ∷ some 4 ∷ []
+  pub four-server :
       map
-      (λ (d : ℕ). openRefusal 260 (opensWith none none 0 0 (record { actionDelay = 0; reportingDelay = d; machines = 0 })))
-      (1_000_000_000_000 ∷ 1_000_000_000_001 ∷ [])
-      ≡ none ∷ some 4 ∷ []
-  pub four-machines :
-      map (λ (m : ℕ). openRefusal 260 (opensWith none none 0 0 (record { actionDelay = 0; reportingDelay = 0; machines = m }))) (16 ∷ 17 ∷ [])
-      ≡ none ∷ some 4 ∷ []
+      (λ (f : Fixed). openRefusal 260 (opensSide server f))
+      (fixedAs 1_000_000_000_000 0 0 ∷ fixedAs 1_000_000_000_001 0 0 ∷ fixedAs 0 1_000_000_000_000 0 ∷ fixedAs 0 1_000_000_000_001 0 ∷ fixedAs 0 0 16 ∷ fixedAs 0 0 17 ∷ [])
+      ≡ none ∷ some 4 ∷ none ∷ some 4 ∷ none ∷ some 4 ∷ []
   -- 5: machine 0 of 0; machine 1 of 2 is there, 2 is not. Kind 10 with machine 99 gives 6, `Cancel` for machine 0 of 0 gives 5
   pub five : call tiny (set-timer (slot client 0) 5) ≡ refusedIn 5 tiny
   pub five-machine : map (λ (m : ℕ). told fresh (set-timer (slot client m) 5)) (1 ∷ 2 ∷ []) ≡ done ∷ refused 5 0 ∷ []
   pub five-kinds :
       map (λ (k : ℕ). told fresh (push (eventFor k 5 0 2))) (0 ∷ 1 ∷ 2 ∷ 3 ∷ 4 ∷ 5 ∷ 6 ∷ 7 ∷ 8 ∷ 9 ∷ 10 ∷ [])
       ≡ done ∷ done ∷ refused 5 0 ∷ done ∷ done ∷ done ∷ refused 5 0 ∷ done ∷ refused 5 0 ∷ refused 5 0 ∷ refused 6 0 ∷ []
+  -- the same of a step: its kinds 2, 6, 8 and 9 need the machine, its kind 10 gives 6
+  pub five-step :
+      map (λ (k : ℕ). told fresh (sim-network-stack 5 (eventFor k 5 0 2))) (0 ∷ 1 ∷ 2 ∷ 3 ∷ 4 ∷ 5 ∷ 6 ∷ 7 ∷ 8 ∷ 9 ∷ 10 ∷ [])
+      ≡ yes-step ∷ no-step ∷ refused 5 0 ∷ yes-step ∷ no-step ∷ no-step ∷ refused 5 0 ∷ no-step ∷ refused 5 0 ∷ refused 5 0 ∷ refused 6 0 ∷ []
   pub five-cancel : told tiny (set-action (slot client 0) (actionFor 0 0 0)) ≡ refused 5 0
   -- 6: `Cancel`; only `SendPadding` and `BlockOutgoing` can be set
   pub six : map (λ (k : ℕ). told fresh (set-action (slot client 0) (actionFor k 5 0))) (0 ∷ 1 ∷ 2 ∷ 3 ∷ []) ≡ refused 6 0 ∷ done ∷ done ∷ refused 6 0 ∷ []
@@ -99,20 +120,20 @@ pub record TableInputs : Type 0 where
   pub seven-duration :
       map (λ (d : ℕ). told fresh (set-action (slot client 0) (actionFor 2 5 d))) (1_000_000_000_000 ∷ 1_000_000_000_001 ∷ []) ≡ done ∷ refused 7 0 ∷ []
   pub seven-choice : map (λ (t : ℕ). told fresh (pick-next t)) (4_611_686_018_427_387_903 ∷ 4_611_686_018_427_387_904 ∷ []) ≡ nothing-left 1 ∷ refused 7 0 ∷ []
+  -- of a step: its time, its event's moment, its event's delay
   pub seven-step :
       map (λ (t : ℕ). told fresh (sim-network-stack t (eventFor 4 5 0 0))) (4_611_686_018_427_387_903 ∷ 4_611_686_018_427_387_904 ∷ []) ≡ no-step ∷ refused 7 0 ∷ []
+  pub seven-step-moment :
+      map (λ (t : ℕ). told fresh (sim-network-stack 5 (eventFor 4 t 0 0))) (4_611_686_018_427_387_903 ∷ 4_611_686_018_427_387_904 ∷ []) ≡ no-step ∷ refused 7 0 ∷ []
+  pub seven-step-delay :
+      map (λ (d : ℕ). told fresh (sim-network-stack 5 (eventFor 4 5 d 0))) (2_000_000_000_000 ∷ 2_000_000_000_001 ∷ []) ≡ no-step ∷ refused 7 0 ∷ []
   -- 8: moment 5, delay 6. Delay 5 is not above it, and such an event may be pushed
   pub eight : map (λ (d : ℕ). told fresh (sim-network-stack 5 (eventFor 0 5 d 0))) (5 ∷ 6 ∷ []) ≡ yes-step ∷ refused 8 0 ∷ []
   pub eight-pushed : told fresh (push (eventFor 0 5 6 0)) ≡ done
   -- 9: R = 1, second push
   pub nine : (call tiny (push (eventFor 1 5 0 0)) ≡ record { answer = done; state = tinyFull }) × (call tinyFull (push (eventFor 1 5 0 0)) ≡ refusedIn 9 tinyFull)
   -- 10: block action at 2^62 − 1, duration 1: no round is finished, and the state is marked ended
-  pub ten :
-      call (withAction fresh client 0 (record { kind = BlockOutgoing; moment = 4_611_686_018_427_387_903; duration = 1; bypass = false; replace = false })) (pick-next 100)
-      ≡ record {
-        answer = refused 10 0;
-        state = withEnded (withAction fresh client 0 (record { kind = BlockOutgoing; moment = 4_611_686_018_427_387_903; duration = 1; bypass = false; replace = false })) true;
-      }
+  pub ten : call lastBlock (pick-next 100) ≡ record { answer = refused 10 0; state = withEnded lastBlock true }
   -- and the round total at 2^62 − 1, even with nothing left
   pub ten-total :
       (told (withRounds fresh 4_611_686_018_427_387_902) (pick-next 100) ≡ nothing-left 1)
@@ -121,7 +142,17 @@ pub record TableInputs : Type 0 where
   pub ignored :
       (call fresh (push (eventFor 1 5 0 99)) ≡ record { answer = done; state = queuedIn fresh (plain NormalSent 5 client 0) })
       × (call fresh (set-action (slot client 0) (actionFor 1 5 1_000_000_000_001))
-      ≡ record { answer = done; state = withAction fresh client 0 (record { kind = SendPadding; moment = 5; duration = 0; bypass = false; replace = false }) })
+      ≡ record { answer = done; state = holding fresh SendPadding 5 0 })
+  -- "Setting replaces what the slot holds; clearing an empty slot changes nothing."
+  pub set-again :
+      (call (withTimer fresh client 0 5) (set-timer (slot client 0) 6) ≡ record { answer = done; state = withTimer fresh client 0 6 })
+      × (call lastBlock (set-action (slot client 0) (actionFor 1 6 0)) ≡ record { answer = done; state = holding fresh SendPadding 6 0 })
+  pub cleared :
+      (call (withTimer fresh client 0 5) (clear-timer (slot client 0)) ≡ record { answer = done; state = fresh })
+      × (call lastBlock (clear-action (slot client 0)) ≡ record { answer = done; state = fresh })
+  pub cleared-empty :
+      (call (withTimer fresh client 0 5) (clear-timer (slot client 1)) ≡ record { answer = done; state = withTimer fresh client 0 5 })
+      × (call lastBlock (clear-action (slot client 1)) ≡ record { answer = done; state = lastBlock })
 
 -- each holds by computation
 pub table-inputs : TableInputs
@@ -129,7 +160,7 @@ unfolding rules
 table-inputs = record {
   one = refl;
   lengths = refl;
-  three = refl;
+  three = (refl, refl);
   four = refl;
   four-queue = refl;
   four-delay = refl;
@@ -137,9 +168,11 @@ table-inputs = record {
   four-action-delay = refl;
   four-reporting-delay = refl;
   four-machines = refl;
+  four-server = refl;
   five = refl;
   five-machine = refl;
   five-kinds = refl;
+  five-step = refl;
   five-cancel = refl;
   six = refl;
   seven = refl;
@@ -149,10 +182,15 @@ table-inputs = record {
   seven-duration = refl;
   seven-choice = refl;
   seven-step = refl;
+  seven-step-moment = refl;
+  seven-step-delay = refl;
   eight = refl;
   eight-pushed = refl;
   nine = (refl, refl);
   ten = refl;
   ten-total = (refl, refl);
   ignored = (refl, refl);
+  set-again = (refl, refl);
+  cleared = (refl, refl);
+  cleared-empty = (refl, refl);
 }

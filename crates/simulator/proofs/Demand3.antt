@@ -9,13 +9,12 @@ use Rattle.rules.specs.Choice.{Answer}
 use Rattle.rules.specs.Calls.{call}
 use Rattle.rules.specs.CallLists.{allowanceOf, carried, isRefused, roundsOf, saysNothing}
 use Rattle.laws.specs.Accepted.{Accepted as AcceptedState}
-use Rattle.laws.specs.Demand.{Keeps, call-keeps}
+use Rattle.laws.specs.CallKeeps.{Keeps, call-keeps}
+use Rattle.laws.specs.Theorems.{fuel-suffices-for-states}
 use Rattle.layout.specs.Accepted.{Accepted}
 use Rattle.layout.specs.Layout.{stateOf}
-use Rattle.layout.proofs.Holds.{words-hold}
 use Rattle.simulator.specs.Outcome.{Outcome, FreeRecords}
 use Rattle.simulator.specs.Demand.{Made, Runs, wordsAfter, roundsIn, allowed, Demand}
-use Rattle.simulator.proofs.Frees.{free-records}
 
 -- accepted words hold an accepted state, and their free records form one chain
 module _ (holds : (w : List ℕ) → Accepted w → AcceptedState (stateOf w)) (frees : (w : List ℕ) → Accepted w → FreeRecords w) where
@@ -60,6 +59,7 @@ module _ (holds : (w : List ℕ) → Accepted w → AcceptedState (stateOf w)) (
   demand-of w l h r =
       record {
         bound = omega (arith, run-bound l w h r);
+        every-round = λ front rest x now f e c n. fuel-suffices-for-states f now (stateOf (wordsAfter w front)) n;
         carries = λ front rest x e.
             let k = found l front rest x w h r e in
             ap carried (answers (wordsAfter w front) x (k .accepted) (k .outcome)) ∙ keeps (wordsAfter w front) x (k .accepted) .carries;
@@ -72,7 +72,3 @@ module _ (holds : (w : List ℕ) → Accepted w → AcceptedState (stateOf w)) (
         accepted = after-accepted l w h r;
         free = frees (wordsAfter w l) (after-accepted l w h r);
       }
-
--- THE theorem of demand 3: any list of calls, in any order, from any accepted words
-pub demand-3 : (w : List ℕ) (l : List Made) → Accepted w → Runs w l → Demand w l
-demand-3 w l h r = demand-of words-hold free-records w l h r
