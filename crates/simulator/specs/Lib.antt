@@ -5,3 +5,4 @@ pub mod Demand
 pub mod Openings
 pub mod StepNumbers
 pub mod Does
+pub mod Alike
