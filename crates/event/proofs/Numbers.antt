@@ -1,10 +1,14 @@
--- Laws of the numbers of kinds: which have a machine, and which actions a slot may hold. Assumes nothing.
+-- Laws of the numbers of kinds: which are a kind's, which have a machine, and which actions a slot may hold. Assumes nothing.
 use Prim.Native.Nat.{ℕ, zero, suc, _-_, _<_, _≤_}
-use native.Mathlib.Omega.{arith}
-use mathlib.Core.Path.{_≡_, refl, sym, subst}
+use mathlib.Core.Path.{_≡_, refl, sym, ap, subst}
 use mathlib.Core.Bool.{Bool, true, false}
+use mathlib.Core.Option.{none, some, Option·map}
+use native.Mathlib.Omega.{arith}
 use lib.Dec.{ltb}
 use borrow.Author.Tests.{ltb-true, ltb-false}
+use Rattle.rules.specs.Basics.{kindOf}
+use Rattle.event.specs.declared.SimEvent.{SimEvent}
+use Rattle.event.specs.Values.{kindAt, eventValue, knownEvent, withKind}
 use Rattle.event.specs.HandedIn.{hasMachineNo, isActionNo}
 
 -- by the ten kinds
@@ -20,6 +24,25 @@ by-kind P a b c d e f g h i j (suc (suc (suc (suc (suc (suc (suc zero))))))) l =
 by-kind P a b c d e f g h i j (suc (suc (suc (suc (suc (suc (suc (suc zero)))))))) l = i
 by-kind P a b c d e f g h i j (suc (suc (suc (suc (suc (suc (suc (suc (suc zero))))))))) l = j
 by-kind P a b c d e f g h i j (suc (suc (suc (suc (suc (suc (suc (suc (suc (suc n)))))))))) l = absurd (omega arith)
+
+-- up to 9 a number is a kind's, and its event is the one that it is read as
+pub kind-some : (n : ℕ) → n ≤ 9 → kindOf n ≡ some (kindAt n)
+kind-some n l = by-kind (λ n. kindOf n ≡ some (kindAt n)) refl refl refl refl refl refl refl refl refl refl n (omega arith)
+
+pub event-known : (e : SimEvent) → e .kind .0 ≤ 9 → knownEvent e ≡ some (eventValue e)
+unfolding knownEvent
+event-known e l = ap (Option·map (withKind e)) (kind-some (e .kind .0) l)
+
+-- above it is none
+pub kind-above : (n : ℕ) → 9 < n → kindOf n ≡ none
+kind-above n l = subst (λ x. kindOf x ≡ none) past refl
+  where
+    past : suc (suc (suc (suc (suc (suc (suc (suc (suc (suc (n - 10)))))))))) ≡ n
+    past = omega arith
+
+pub event-unknown : (e : SimEvent) → 9 < e .kind .0 → knownEvent e ≡ none
+unfolding knownEvent
+event-unknown e l = ap (Option·map (withKind e)) (kind-above (e .kind .0) l)
 
 -- no number above 9 has a machine
 pub machine-above : (n : ℕ) → 10 ≤ n → hasMachineNo n ≡ false

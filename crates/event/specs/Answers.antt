@@ -1,8 +1,10 @@
 -- What the calls' answers are in the words of the rules: document 01's number and values for each case of each enum. Assumes nothing.
+use Prim.Native.Nat.{ℕ}
 use mathlib.Core.Bool.{Bool, true, false}
+use mathlib.Core.Option.{Option, none, some}
 use Rattle.rules.specs.State.{Event}
 use Rattle.rules.specs.Choice.{Answer as RulesAnswer, done, event, nothing-left, yes-step, no-step, refused}
-use Rattle.event.specs.Values.{eventValue}
+use Rattle.event.specs.Values.{knownEvent}
 use Rattle.event.specs.declared.answer.Answer.{Answer}
 use Rattle.event.specs.declared.answer.Answer.the-variants.{Done, Refused}
 use Rattle.event.specs.declared.answer.Choice.{Choice}
@@ -15,9 +17,14 @@ abbrev pub answerOf : Answer → RulesAnswer
 answerOf Done = done
 answerOf (Refused r) = refused (r .number) (r .rounds)
 
+-- an event that is answered, with the rounds made; a number that is no kind's makes it `done`, which no choice answers
+abbrev pub chosenAs : Option Event → ℕ → RulesAnswer
+chosenAs none k = done
+chosenAs (some e) k = event e k
+
 -- the answer of a choice
 abbrev pub choiceOf : Choice → RulesAnswer
-choiceOf (choice.Event c) = event (eventValue (c .event)) (c .rounds)
+choiceOf (choice.Event c) = chosenAs (knownEvent (c .event)) (c .rounds)
 choiceOf (choice.Nothing f) = nothing-left (f .rounds)
 choiceOf (choice.Refused r) = refused (r .number) (r .rounds)
 

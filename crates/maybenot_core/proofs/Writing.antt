@@ -1,8 +1,9 @@
 -- What the functions of src/written.rt write is the answer's words. Assumes nothing.
-use Prim.Native.Nat.{ℕ, zero, suc, _-_, _+_, _<_, _≤_}
+use Prim.Native.Nat.{ℕ, zero, suc, _+_, _<_, _≤_}
 use mathlib.Core.Path.{_≡_, refl, sym, ap, subst, _∙_}
 use mathlib.Core.Bool.{Bool, true, false}
 use mathlib.Core.List.{List, [], _∷_, _++_}
+use mathlib.Core.Option.{Option, none, some}
 use native.Mathlib.Omega.{arith}
 use native.Mathlib.Nat.{le-of-suc-le-suc, not-suc-le-zero}
 use native.Mathlib.Numerals.{add-one}
@@ -10,21 +11,25 @@ use lib.ListN.{length, take, drop, getD, set, length-set}
 use lib.Seq.{take-length, drop-length}
 use borrow.Author.Tests.{eq-eqb, ne-eqb}
 use mir.Val.{boolByte}
-use Rattle.rules.specs.Basics.{if_then_else_, rank}
-use Rattle.rules.specs.Choice.{Answer, event}
+use Rattle.rules.specs.Basics.{if_then_else_}
+use Rattle.rules.specs.Choice.{Answer}
+use Rattle.rules.specs.State.{Event}
 use Rattle.rules.specs.Arguments.{Call}
 use Rattle.event.specs.HandedIn.{sideOf}
-use Rattle.event.specs.Values.{kindAt, eventValue}
-use Rattle.event.specs.Answers.{choiceOf, yesOrNo, stepOf}
+use Rattle.event.specs.Values.{knownEvent}
+use Rattle.event.specs.Answers.{choiceOf, chosenAs, yesOrNo, stepOf}
 use Rattle.event.specs.declared.SimEvent.{SimEvent}
 use Rattle.event.specs.declared.answer.Choice.{Choice}
+use Rattle.event.specs.declared.answer.Chosen.{Chosen}
 use Rattle.event.specs.declared.answer.Step.{Step}
 use Rattle.event.specs.declared.answer.Step.the-variants.{Made}
 use Rattle.event.specs.declared.answer.Stepped.{Stepped}
 use Rattle.simulator.specs.Outcome.{Outcome}
+use Rattle.event.proofs.Numbers.{event-known, event-unknown}
 use Rattle.layout.proofs.Order.{rank-kind}
 use Rattle.maybenot_core.specs.Told.{numberIn}
-use Rattle.maybenot_core.specs.Answers.{flagWord, sideWord, choiceWords, stepWords, outLeft, Answered}
+use Rattle.maybenot_core.specs.Answers.{flagWord, sideWord, noEvent, choiceWords, stepWords, outLeft, Answered}
+use Rattle.event.specs.declared.answer.Choice.the-variants as choice
 
 -- ---- one word
 
@@ -36,26 +41,28 @@ side-is : (b : Bool) → flagWord b ≡ sideWord (sideOf b)
 side-is true = refl
 side-is false = refl
 
-pub kind-none : (n : ℕ) → 9 < n → 0 ≡ rank (kindAt n)
-kind-none n l = subst (λ x. 0 ≡ rank (kindAt x)) past refl
-  where
-    past : suc (suc (suc (suc (suc (suc (suc (suc (suc (suc (n - 10)))))))))) ≡ n
-    past = omega arith
-
-pub kind-some : (n : ℕ) → n ≤ 9 → n ≡ rank (kindAt n)
-kind-some n l = sym (rank-kind n (omega arith))
-
 -- ---- the words of an answer
 
+pub event-none : (e : SimEvent) (rounds : ℕ) → 9 < e .kind .0 → (0 ∷ 0 ∷ noEvent) ≡ choiceWords (chosenAs (knownEvent e) rounds)
+event-none e rounds l = ap (λ (o : Option Event). choiceWords (chosenAs o rounds)) (sym (event-unknown e l))
+
 pub event-is :
-    (e : SimEvent) (rounds kind side padding bypass replace : ℕ) → kind ≡ rank (kindAt (e .kind .0)) → side ≡ flagWord (e .client)
+    (e : SimEvent) (rounds side padding bypass replace : ℕ) → e .kind .0 ≤ 9 → side ≡ flagWord (e .client)
     → padding ≡ flagWord (e .padding) → bypass ≡ flagWord (e .bypass) → replace ≡ flagWord (e .replace)
-    → (1 ∷ rounds ∷ kind ∷ e .moment .0 ∷ e .delay .0 ∷ side ∷ padding ∷ bypass ∷ replace ∷ e .machine ∷ []) ≡ choiceWords (event (eventValue e) rounds)
-event-is e rounds kind side padding bypass replace k s p b r =
-    λ d. 1 ∷ rounds ∷ k d ∷ e .moment .0 ∷ e .delay .0 ∷ (s ∙ side-is (e .client)) d ∷ p d ∷ b d ∷ r d ∷ e .machine ∷ []
+    → (1 ∷ rounds ∷ e .kind .0 ∷ e .moment .0 ∷ e .delay .0 ∷ side ∷ padding ∷ bypass ∷ replace ∷ e .machine ∷ []) ≡ choiceWords (chosenAs (knownEvent e) rounds)
+event-is e rounds side padding bypass replace l s p b r =
+    (λ d. 1 ∷ rounds ∷ sym (rank-kind (e .kind .0) (omega arith)) d ∷ e .moment .0 ∷ e .delay .0 ∷ (s ∙ side-is (e .client)) d ∷ p d ∷ b d ∷ r d ∷ e .machine ∷ [])
+    ∙ ap (λ (o : Option Event). choiceWords (chosenAs o rounds)) (sym (event-known e l))
 
 pub choice-is : (a b : Choice) → a ≡ b → choiceWords (choiceOf b) ≡ choiceWords (choiceOf a)
 choice-is a b e = ap (λ (x : Choice). choiceWords (choiceOf x)) (sym e)
+
+chosen-number : (o : Option Event) (rounds : ℕ) → 0 ≡ numberIn (chosenAs o rounds)
+chosen-number none rounds = refl
+chosen-number (some e) rounds = refl
+
+pub event-number : (a : Choice) (c : Chosen) → a ≡ choice.Event c → 0 ≡ numberIn (choiceOf a)
+event-number a c e = chosen-number (knownEvent (c .event)) (c .rounds) ∙ ap (λ (x : Choice). numberIn (choiceOf x)) (sym e)
 
 flag-words : (b : Bool) → (flagWord b ∷ []) ≡ stepWords (yesOrNo b)
 flag-words true = refl

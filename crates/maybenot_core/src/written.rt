@@ -1,9 +1,7 @@
 // The answers of a choice and of a network step: their numbers, and the words that are written into the caller's place.
 ghost use mathlib.Core.Path.{_≡_};
-ghost use Rattle.rules.specs.Basics.{rank};
-ghost use Rattle.rules.specs.Choice.{event};
-ghost use Rattle.event.specs.Answers.{choiceOf, stepOf};
-ghost use Rattle.event.specs.Values.{kindAt, eventValue};
+ghost use Rattle.event.specs.Answers.{choiceOf, chosenAs, stepOf};
+ghost use Rattle.event.specs.Values.{knownEvent};
 ghost use Rattle.maybenot_core.specs.Told.{numberIn};
 ghost use Rattle.maybenot_core.specs.Answers.{flagWord, choiceWords, stepWords, outLeft};
 use event::Kind;
@@ -17,20 +15,13 @@ fn flag_word(b: bool) -> u64
     b as u64
 }
 
-// The rank of the kind that is answered. By `kindAt` a number that is no kind's would stand for kind 0.
-fn kind_word(k: Kind) -> u64
-    ensures { λ n. ⌜ n ≡ rank (kindAt (k .0)) ⌝ }
-{
-    if k.0 > Kind::TIMER_END {
-        return 0;
-    }
-    k.0
-}
-
+// The words of an event that was chosen. No choice answers one whose number is no kind's: its words are those of `done`.
 fn event_words(e: SimEvent, rounds: u64) -> [u64; 10]
-    ensures { λ w. ⌜ w ≡ choiceWords (event (eventValue e) rounds) ⌝ }
+    ensures { λ w. ⌜ w ≡ choiceWords (chosenAs (knownEvent e) rounds) ⌝ }
 {
-    let kind = kind_word(e.kind);
+    if e.kind.0 > Kind::TIMER_END {
+        return [0, 0, 0, 0, 0, 0, 0, 0, 0, 0];
+    }
     let side = flag_word(e.client);
     let padding = flag_word(e.padding);
     let bypass = flag_word(e.bypass);
@@ -38,7 +29,7 @@ fn event_words(e: SimEvent, rounds: u64) -> [u64; 10]
     [
         1,
         rounds,
-        kind,
+        e.kind.0,
         e.moment.0,
         e.delay.0,
         side,

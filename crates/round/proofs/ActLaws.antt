@@ -2,17 +2,17 @@
 use Prim.Native.Nat.{ℕ, _+_, _≤_, _<_, _^_}
 use mathlib.Core.Path.{_≡_, refl, sym, ap, subst}
 use mathlib.Core.List.{List}
-use mathlib.Core.Option.{some}
+use mathlib.Core.Option.{Option, some}
 use native.Mathlib.Omega.{arith}
 use lib.ListN.{length, take}
 use Rattle.rules.specs.State.{Event, inRecord}
-use Rattle.rules.specs.Choice.{event}
 use Rattle.rules.specs.Queueing.{pushEvent}
 use Rattle.rules.specs.ChoiceRound.{Candidate as RulesCandidate, act, takeAggregate, clearTimer, timerEvent, doAction, endBlock}
 use Rattle.laws.specs.Accepted.{Accepted as HeldAccepted}
 use Rattle.laws.specs.Fits.{fits-all}
 use Rattle.laws.specs.Found.{Found, found}
 use Rattle.laws.specs.RecordsTaken.{recordsTaken, round-takes-free}
+use Rattle.event.specs.Answers.{chosenAs}
 use Rattle.event.specs.HandedIn.{aggregateIn}
 use Rattle.event.specs.declared.AggregateDelay.{AggregateDelay}
 use Rattle.event.specs.declared.SimEvent.{SimEvent}
@@ -110,7 +110,7 @@ module _ (w : List ℕ) (now k : ℕ) (c : Candidate) (may : MayAct w now k c) w
 
     pub event-acted : (left : List ℕ) (r : SimEvent) → EventTaken w left now h r → Passed w left k (act (stateOf w) now (candidateOf (take 256 w) c)) (Answered (choice.Event (record { event = r; rounds = k + 1 })))
     unfolding candidateOf
-    event-acted left r t = passed-as w left now k c (AnEvent h) _ e (record { answer = ap (λ (x : Event). some (event x (k + 1))) (t .event); words = t .words })
+    event-acted left r t = passed-as w left now k c (AnEvent h) _ e (record { answer = ap (λ (x : Option Event). some (chosenAs x (k + 1))) (t .event); words = t .words })
 
   -- ---- 4. a timer
 

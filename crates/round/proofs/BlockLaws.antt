@@ -3,7 +3,7 @@ use Prim.Native.Nat.{ℕ, max, _+_, _≤_, _<_, _^_}
 use mathlib.Core.Path.{_≡_, refl, sym, ap, subst, _∙_}
 use mathlib.Core.Bool.{Bool, true, false}
 use mathlib.Core.List.{List, [], _∷_}
-use mathlib.Core.Option.{none, some}
+use mathlib.Core.Option.{Option, none, some}
 use native.Mathlib.Omega.{arith}
 use lib.Dec.{eqb}
 use lib.ListN.{length}
@@ -16,12 +16,12 @@ use Rattle.rules.specs.Aggregates.{aggregatesOf, addAggregate, addAggregates}
 use Rattle.rules.specs.ChoiceDelays.{Block}
 use Rattle.rules.specs.ChoiceHeads.{waitingHead}
 use Rattle.rules.specs.ChoiceRound.{RoundOutcome, next, taken, clearBlock, endAggregates, endBlock, endEvent, endMoment, heldUpLength}
-use Rattle.rules.specs.Choice.{event}
 use Rattle.laws.specs.Accepted.{Accepted as HeldAccepted}
 use Rattle.laws.specs.Counts.{at-most-two}
 use Rattle.laws.specs.RecordsRound.{side-reserved}
 use Rattle.laws.specs.RecordsTaken.{free-reserved}
 use Rattle.laws.specs.Sound.{EndOk, sound-side}
+use Rattle.event.specs.Answers.{chosenAs}
 use Rattle.event.specs.HandedIn.{sideOf}
 use Rattle.event.specs.declared.SimEvent.{SimEvent}
 use Rattle.moment.specs.declared.Length.{Length}
@@ -36,6 +36,7 @@ use Rattle.event.specs.Values.{eventValue}
 use Rattle.network.specs.Due.{MayAggregate}
 use Rattle.queue_peek.specs.Decoded.{blockFrom}
 use Rattle.queue_peek.specs.declared.blocks.BlockEnd.{BlockEnd}
+use Rattle.event.proofs.Numbers.{event-known}
 use Rattle.layout.proofs.Theorems.{holds-accepted}
 use Rattle.layout.proofs.Shapes.{accepted-shaped}
 use Rattle.queue.proofs.Sizes.{free-length}
@@ -157,7 +158,7 @@ module _ (w : List ℕ) (now : ℕ) (k : BlockEnd) (due : BlockDue w now k) wher
       pub end-returned : (rounds : ℕ) → d .0 ≡ 0 → Passed w w₁ rounds (endBlock (stateOf w) now (blockFrom k)) (Answered (choice.Event (record { event = r; rounds = rounds + 1 })))
       end-returned rounds e =
           subst (λ (o : RoundOutcome). Passed w w₁ rounds o (Answered (choice.Event (record { event = r; rounds = rounds + 1 })))) (sym (by-delay true (eq-eqb (d .0) 0 e)))
-          (record { answer = ap (λ (x : Event). some (event x (rounds + 1))) (shown .is); words = c })
+          (record { answer = ap (λ (x : Option Event). some (chosenAs x (rounds + 1))) (event-known r (shown .canonical .kind) ∙ ap some (shown .is)); words = c })
 
       pub end-may : MayPush w₁ r
       end-may = event-may w w₁ _ _ r c shown (omega (arith, three-free, clear-free (stateOf w) now (blockFrom k)))

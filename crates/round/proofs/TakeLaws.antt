@@ -9,7 +9,7 @@ use Rattle.rules.specs.Basics.{Side, client, server}
 use Rattle.rules.specs.State.{Aggregate, Held, State, inRecord, side, withSide, withSum, withAggregates, withFree}
 use Rattle.rules.specs.ChoiceRound.{takeAggregate, shifted}
 use Rattle.event.specs.HandedIn.{sideOf, aggregateIn}
-use Rattle.event.specs.Values.{eventValue}
+use Rattle.event.specs.Values.{eventValue, knownEvent}
 use Rattle.event.specs.declared.AggregateDelay.{AggregateDelay}
 use Rattle.event.specs.declared.SimEvent.{SimEvent}
 use Rattle.moment.specs.declared.Moment.{Moment}
@@ -19,6 +19,7 @@ use Rattle.queue.specs.Changes.{MayRelease, Released, headIn}
 use Rattle.queue.specs.Heads.{chainAt, headFrom}
 use Rattle.queue.specs.Stamps.{firstPlace, dropAggregate}
 use Rattle.queue.specs.declared.peek.Head.{Head}
+use Rattle.event.proofs.Numbers.{event-known}
 use Rattle.queue.proofs.HeadsChains.{chain-number}
 use Rattle.queue.proofs.Queueing.{released-aggregate, released-event}
 use Rattle.queue.proofs.Sizes.{aggregates-length}
@@ -105,5 +106,7 @@ module _ (w : List ℕ) (h : Head) (due : EventDue w h) (k : ℕ) (ek : (k ≡ h
               size = c .size;
               spare = beside-spare w w₁ (c .beside);
             };
-        event = ap eventValue er ∙ ap (λ (t : ℕ). eventValue (movedTo (h .event) (record { 0 = t }))) (em ∙ later-is (shifted (side (stateOf w) (sideOf (h .event .client))) (headFrom h)) (h .moment .0) now (due .lifted));
+        event =
+            ap knownEvent er ∙ event-known (movedTo (h .event) m) (due .head .kind)
+            ∙ ap (λ (t : ℕ). some (eventValue (movedTo (h .event) (record { 0 = t })))) (em ∙ later-is (shifted (side (stateOf w) (sideOf (h .event .client))) (headFrom h)) (h .moment .0) now (due .lifted));
       }

@@ -14,7 +14,7 @@ use Rattle.rules.specs.Choice.{Answer, event, nothing-left, refused}
 use Rattle.laws.specs.Falls.{stateAfter}
 use Rattle.event.specs.HandedIn.{sideOf, aggregateIn}
 use Rattle.event.specs.Answers.{choiceOf}
-use Rattle.event.specs.Values.{eventValue}
+use Rattle.event.specs.Values.{eventValue, knownEvent}
 use Rattle.event.specs.declared.SimEvent.{SimEvent}
 use Rattle.event.specs.declared.AggregateDelay.{AggregateDelay}
 use Rattle.moment.specs.declared.Moment.{Moment}
@@ -72,10 +72,10 @@ pub record EventDue (w : List ℕ) (h : Head) : Type 0 where
 abbrev pub movedTo : SimEvent → Moment → SimEvent
 movedTo e m = record { kind = e .kind; moment = m; delay = e .delay; client = e .client; padding = e .padding; bypass = e .bypass; replace = e .replace; machine = e .machine }
 
--- the state without it, and the event as it is returned
+-- the state without it, and the event as it is returned: its number is a kind's
 pub record EventTaken (w left : List ℕ) (now : ℕ) (h : Head) (r : SimEvent) : Type 0 where
   pub words : Becomes w left (takeEvent (stateOf w) (headFrom h))
-  pub event : eventValue r ≡ takenEvent (stateOf w) now (headFrom h)
+  pub event : knownEvent r ≡ some (takenEvent (stateOf w) now (headFrom h))
 
 -- a timer's slot, and a free record
 pub record TimerDue (w : List ℕ) (d : Due) : Type 0 where

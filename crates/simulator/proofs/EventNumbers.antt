@@ -1,9 +1,8 @@
 -- Numbers 5, 6, 7 and 9 of an event that is handed in, test by test. Assumes nothing.
 use Prim.Native.Nat.{ℕ, suc, _+_, _≤_, _<_}
-use mathlib.Core.Path.{_≡_, refl, sym, ap, ap₂, _∙_}
+use mathlib.Core.Path.{_≡_, sym, ap, ap₂, _∙_}
 use mathlib.Core.Bool.{Bool, true, false, not, _&&_, _||_}
 use mathlib.Core.List.{List, [], _∷_}
-use mathlib.Core.Option.{some}
 use native.Mathlib.Omega.{arith}
 use lib.Dec.{leb, ltb}
 use lib.ListN.{getD}
@@ -22,7 +21,7 @@ use Rattle.layout.specs.Accepted.{Good}
 use Rattle.event.specs.Values.{kindAt}
 use Rattle.layout.specs.Layout.{stateFrom}
 use Rattle.layout.specs.Changes.{sideNo}
-use Rattle.event.proofs.Numbers.{by-kind}
+use Rattle.event.proofs.Numbers.{kind-some}
 use Rattle.layout.proofs.Counts.{reserved-is}
 use Rattle.simulator.specs.Numbers.{EventFree, numberOf, firstNumber, eventRows, LacksMachine, EventNumber, CallNumber}
 use Rattle.simulator.proofs.Rows.{front-yes, front-no, all-false, going}
@@ -85,9 +84,6 @@ event-free s r z =
     record { machine = all .0; kind = ltb-false 9 (r .kind) (all .1 .0); large = all .1 .1 .0 }
 
 -- ---- 9
-
-pub kind-some : (n : ℕ) → n < 10 → kindOf n ≡ some (kindAt n)
-kind-some n l = by-kind (λ n. kindOf n ≡ some (kindAt n)) refl refl refl refl refl refl refl refl refl refl n l
 
 module _ (h rs : List ℕ) (g : Good h rs) (r : EventIn) where
   -- a push takes one free record

@@ -18,4 +18,5 @@ pub mod StepRows
 pub mod StepOutcomes
 pub mod ChoiceNumbers
 pub mod ChoiceOutcomes
+pub mod OneOutcome
 pub mod Theorems

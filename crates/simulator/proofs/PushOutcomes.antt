@@ -24,12 +24,13 @@ use Rattle.event.specs.Values.{kindAt, eventValue}
 use Rattle.layout.specs.Layout.{stateOf}
 use Rattle.queue.specs.Changes.{Leaves, countIn}
 use Rattle.queue.specs.Pushes.{Canonical, MayPush}
+use Rattle.event.proofs.Numbers.{kind-some}
 use Rattle.simulator.specs.Kept.{keptEvent}
 use Rattle.simulator.specs.Does.{Does}
 use Rattle.simulator.specs.Outcome.{Outcome}
 use Rattle.simulator.specs.Numbers.{Numbered, slotIn}
 use Rattle.simulator.proofs.Outcomes.{passed-accepted, passed-none}
-use Rattle.simulator.proofs.EventNumbers.{full-push, kind-some}
+use Rattle.simulator.proofs.EventNumbers.{full-push}
 use Rattle.simulator.proofs.SlotOutcomes.{has-small}
 use Rattle.simulator.proofs.Working.{outcome-done, passed-shaped}
 
@@ -46,7 +47,7 @@ kept-zero e b p q = λ d. record { kind = e .kind; moment = e .moment; delay = e
 -- the kept event is the rules' own
 machine-kind : (n : ℕ) → n < 10 → hasMachineNo n ≡ hasMachine (kindAt n)
 unfolding hasMachineNo
-machine-kind n l = ap (λ o. Option·getD (Option·map hasMachine o) false) (kind-some n l)
+machine-kind n l = ap (λ o. Option·getD (Option·map hasMachine o) false) (kind-some n (omega arith))
 
 value-is : (e : SimEvent) → e .kind .0 < 10 → eventValue (keptEvent e) ≡ eventOf (eventIn e) (kindAt (e .kind .0))
 value-is e l = λ d.

@@ -6,3 +6,4 @@ pub mod Openings
 pub mod OpeningParts
 pub mod StepNumbers
 pub mod Does
+pub mod Alike
