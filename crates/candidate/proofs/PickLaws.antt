@@ -1,12 +1,11 @@
 -- What a round takes up, case by case. Assumes nothing.
-use Prim.Native.Nat.{ℕ, zero, suc, _+_, _^_, _<_, _≤_}
+use Prim.Native.Nat.{ℕ, zero, suc, _+_, _^_, _<_}
 use mathlib.Core.Path.{_≡_, refl, sym, ap, subst, _∙_}
 use mathlib.Core.Bool.{Bool, true, false}
 use mathlib.Core.List.{List, head?, map}
 use mathlib.Core.Option.{Option, none, some}
 use native.Mathlib.Omega.{arith}
 use lib.Dec.{ltb}
-use borrow.Author.Tests.{lt-ltb, le-ltb}
 use Rattle.rules.specs.Basics.{if_then_else_}
 use Rattle.rules.specs.State.{State, side}
 use Rattle.rules.specs.ChoiceHeads.{Head as RulesHead}
@@ -35,11 +34,14 @@ use Rattle.queue_event.proofs.Laws.{nodes-next}
 use Rattle.layout.proofs.Banks.{chains-at}
 use Rattle.queue.proofs.HeadsOrder.{stands-on-at}
 use Rattle.candidate.specs.declared.Due.{Due}
+use Rattle.candidate.specs.declared.FirstDue.{FirstDue}
+use Rattle.candidate.specs.declared.FirstDue.the-variants.{At as AtSlot, Nothing as NoSlot}
 use Rattle.candidate.specs.declared.Next.{Next}
 use Rattle.candidate.specs.declared.Next.the-variants.{Take, Nothing}
 use Rattle.candidate.specs.declared.Candidate.the-variants.{Aggregate as AnAggregate, Block as ABlock, Event as AnEvent, Timer as ATimer}
 use Rattle.candidate.specs.Candidates.{dueSlot, candidateOf, nextOf, Stands, NextStands}
-use Rattle.candidate.specs.Promises.{dueOf, DueTimer, DueAction, Picked, Ahead}
+use Rattle.candidate.specs.Promises.{dueOf, DueWhen, DueTimer, DueAction, Picked, Ahead}
+use Rattle.candidate.proofs.SlotLaws.{timer-one}
 
 -- the same of an equal candidate
 pub moved : (h rs : List ℕ) (r : Next) (c d : RulesCandidate) → Picked h rs r c → c ≡ d → Picked h rs r d
@@ -120,12 +122,6 @@ module _ (f : Found) where
 
 -- ---- the timer and the action that are due
 
-due-found : (d : Due) → d .machine < 16 → dueOf d ≡ some (dueSlot d)
-due-found d l = rw (lt-ltb (d .machine) 16 l)
-
-due-nowhere : (d : Due) → 16 ≤ d .machine → dueOf d ≡ none
-due-nowhere d l = rw (le-ltb (d .machine) 16 l)
-
 pub ahead-fits : (t : ℕ) (i : Delay) (l : Length) → Ahead t (delayOf i) → i ≡ In l → t + l .0 < 2 ^ 64
 unfolding Ahead delayOf
 ahead-fits t i l a e = let b : Ahead t (delayOf (In l)) = subst (λ (x : Delay). Ahead t (delayOf x)) e a in omega arith
@@ -139,34 +135,39 @@ module _ (h : List ℕ) (t : ℕ) (i : Delay) where
   unfolding nextOf NextStands delayOf
   action-absent e rs = record { is = ap (λ (x : Delay). dueAction (stateFrom h rs) t (delayOf x)) (sym e); stands = tt }
 
-  module _ (l : Length) (u : Moment) (d : Due) (e : i ≡ In l) (eu : u .0 ≡ t + l .0) where
-    module _ (p : DueTimer h (u .0) d) where
-      timer-is : (rs : List ℕ) → orNone (λ (z : Slot). aTimer z (u .0)) (dueOf d) ≡ dueTimer (stateFrom h rs) t (delayOf i)
+  module _ (l : Length) (u : Moment) (f : FirstDue) (e : i ≡ In l) (eu : u .0 ≡ t + l .0) where
+    module _ (p : DueTimer h (u .0) f) where
+      timer-is : (rs : List ℕ) → orNone (λ (z : Slot). aTimer z (u .0)) (dueOf f) ≡ dueTimer (stateFrom h rs) t (delayOf i)
       unfolding delayOf
       timer-is rs =
           ap (orNone (λ (z : Slot). aTimer z (u .0))) (p .is rs)
           ∙ ap (λ n. orNone (λ (z : Slot). aTimer z n) (timerSlot (stateFrom h rs) n)) eu
           ∙ ap (λ (x : Delay). dueTimer (stateFrom h rs) t (delayOf x)) (sym e)
 
-      pub timer-some : d .machine < 16 → (rs : List ℕ) → Picked h rs (Take (ATimer d)) (dueTimer (stateFrom h rs) t (delayOf i))
-      unfolding nextOf NextStands candidateOf Stands
-      timer-some lt rs = record { is = ap (aTimer (dueSlot d)) (p .when) ∙ sym (ap (orNone (λ (z : Slot). aTimer z (u .0))) (due-found d lt)) ∙ timer-is rs; stands = lt }
+      pub timer-some : (d : Due) → f ≡ AtSlot d → (rs : List ℕ) → Picked h rs (Take (ATimer d)) (dueTimer (stateFrom h rs) t (delayOf i))
+      unfolding nextOf NextStands candidateOf Stands dueOf DueWhen
+      timer-some d x rs =
+          record {
+            is = ap (aTimer (dueSlot d)) (subst (DueWhen (u .0)) x (p .when)) ∙ ap (λ (y : FirstDue). orNone (λ (z : Slot). aTimer z (u .0)) (dueOf y)) (sym x) ∙ timer-is rs;
+            stands = timer-one h (u .0) f d x p;
+          }
 
-      pub timer-none : 16 ≤ d .machine → (rs : List ℕ) → Picked h rs Nothing (dueTimer (stateFrom h rs) t (delayOf i))
-      unfolding nextOf NextStands
-      timer-none le rs = record { is = sym (ap (orNone (λ (z : Slot). aTimer z (u .0))) (due-nowhere d le)) ∙ timer-is rs; stands = tt }
+      pub timer-none : f ≡ NoSlot → (rs : List ℕ) → Picked h rs Nothing (dueTimer (stateFrom h rs) t (delayOf i))
+      unfolding nextOf NextStands dueOf
+      timer-none x rs = record { is = ap (λ (y : FirstDue). orNone (λ (z : Slot). aTimer z (u .0)) (dueOf y)) (sym x) ∙ timer-is rs; stands = tt }
 
-    module _ (p : DueAction h (u .0) d) where
-      action-is : (rs : List ℕ) → orNone (actionFrom (stateFrom h rs)) (dueOf d) ≡ dueAction (stateFrom h rs) t (delayOf i)
+    module _ (p : DueAction h (u .0) f) where
+      action-is : (rs : List ℕ) → orNone (actionFrom (stateFrom h rs)) (dueOf f) ≡ dueAction (stateFrom h rs) t (delayOf i)
       unfolding delayOf
       action-is rs =
           ap (orNone (actionFrom (stateFrom h rs))) (p .is rs ∙ ap (actionSlot (stateFrom h rs)) eu)
           ∙ ap (λ (x : Delay). dueAction (stateFrom h rs) t (delayOf x)) (sym e)
 
-      pub action-some : (r : Next) → d .machine < 16 → ((rs : List ℕ) → Picked h rs r (actionFrom (stateFrom h rs) (dueSlot d)))
+      pub action-some : (r : Next) (d : Due) → f ≡ AtSlot d → ((rs : List ℕ) → Picked h rs r (actionFrom (stateFrom h rs) (dueSlot d)))
           → (rs : List ℕ) → Picked h rs r (dueAction (stateFrom h rs) t (delayOf i))
-      action-some r lt q rs = moved h rs r _ _ (q rs) (sym (ap (orNone (actionFrom (stateFrom h rs))) (due-found d lt)) ∙ action-is rs)
+      unfolding dueOf
+      action-some r d x q rs = moved h rs r _ _ (q rs) (ap (λ (y : FirstDue). orNone (actionFrom (stateFrom h rs)) (dueOf y)) (sym x) ∙ action-is rs)
 
-      pub action-none : 16 ≤ d .machine → (rs : List ℕ) → Picked h rs Nothing (dueAction (stateFrom h rs) t (delayOf i))
-      unfolding nextOf NextStands
-      action-none le rs = record { is = sym (ap (orNone (actionFrom (stateFrom h rs))) (due-nowhere d le)) ∙ action-is rs; stands = tt }
+      pub action-none : f ≡ NoSlot → (rs : List ℕ) → Picked h rs Nothing (dueAction (stateFrom h rs) t (delayOf i))
+      unfolding nextOf NextStands dueOf
+      action-none x rs = record { is = ap (λ (y : FirstDue). orNone (actionFrom (stateFrom h rs)) (dueOf y)) (sym x) ∙ action-is rs; stands = tt }

@@ -1,25 +1,29 @@
 -- The slots of a side looked through for a moment: each slot's words, the lowest machine, the client first. Assumes nothing.
 use Prim.Native.Nat.{ℕ, zero, suc, _+_, _-_, _*_, _<_, _≤_}
-use mathlib.Core.Path.{_≡_, refl, sym, ap, ap₂, _∙_}
+use mathlib.Core.Path.{_≡_, refl, sym, ap, subst, _∙_}
 use mathlib.Core.Bool.{Bool, true, false}
-use mathlib.Core.List.{List, _∷_, map}
+use mathlib.Core.List.{List, [], _∷_, map}
 use mathlib.Core.Option.{Option, none, some, Option·map}
 use native.Mathlib.Omega.{arith}
 use native.Mathlib.Decide.{ℕ-discrete}
-use lib.Dec.{eqb, ltb}
+use lib.Dec.{eqb}
 use lib.ListN.{getD}
-use borrow.Author.Tests.{lt-ltb, le-ltb}
-use Rattle.rules.specs.Basics.{if_then_else_, client, server}
+use Rattle.rules.specs.Basics.{if_then_else_}
 use Rattle.rules.specs.State.{Action}
 use Rattle.rules.specs.ChoiceDelays.{actionMoments}
-use Rattle.rules.specs.ChoiceRound.{slotAt, slotOf}
+use Rattle.rules.specs.ChoiceRound.{slotAt, slotOf, Slot}
 use Rattle.event.specs.HandedIn.{sideOf}
 use Rattle.layout.specs.Changes.{sideNo}
 use Rattle.layout.specs.Layout.{lessOne, actionFrom, bank, firsts, stateFrom}
 use Rattle.queue.specs.Heads.{sideHeld}
 use Rattle.moment.specs.declared.Moment.{Moment}
 use Rattle.layout.proofs.Banks.{bank-at}
-use Rattle.candidate.specs.Promises.{hasMoment, timerIn, plannedIn, momentIn, Missed, machineOf, DueTimer, DueAction}
+use Rattle.candidate.specs.declared.Machine.{Machine}
+use Rattle.candidate.specs.declared.Machine.the-variants.{At as AtMachine, Nothing as NoMachine}
+use Rattle.candidate.specs.declared.Due.{Due}
+use Rattle.candidate.specs.declared.FirstDue.{FirstDue}
+use Rattle.candidate.specs.declared.FirstDue.the-variants.{At as AtSlot, Nothing as NoSlot}
+use Rattle.candidate.specs.Promises.{hasMoment, timerIn, plannedIn, momentIn, Missed, machineOf, dueOf, DueWhen, DueOn, DueTimer, DueAction}
 
 -- ---- the words of a slot
 
@@ -132,9 +136,6 @@ pub moments-are : (h rs : List ℕ) (b : Bool) → actionMoments (sideHeld h rs 
 unfolding momentIn
 moments-are h rs b = ap (map (Option·map (λ (a : Action). a .moment))) (actions-are h rs b) ∙ map-firsts (Option·map (λ (a : Action). a .moment)) 16 (plannedIn h b)
 
-machine-is : (m : ℕ) → m < 16 → machineOf m ≡ some m
-machine-is m l = rw (lt-ltb m 16 l)
-
 module _ (h : List ℕ) (b : Bool) (t m : ℕ) where
   pub timer-next : (r : Bool) → Missed (timerIn h b) t m → r ≡ hasMoment t (timerIn h b m) → r ≡ false → Missed (timerIn h b) t (m + 1)
   timer-next r p e z = missed-turn (timerIn h b) t m r p e z
@@ -143,42 +144,115 @@ module _ (h : List ℕ) (b : Bool) (t m : ℕ) where
   action-next r p e z = missed-turn (momentIn h b) t m r p e z
 
   module _ (r : Bool) (l : m < 16) (z : r ≡ true) where
-    pub timer-found : Missed (timerIn h b) t m → r ≡ hasMoment t (timerIn h b m) → (rs : List ℕ) → machineOf m ≡ slotAt t (sideHeld h rs b .timers)
-    timer-found p e rs = machine-is m l ∙ sym (ap (slotAt t) (timers-are h rs b) ∙ slot-first 16 (timerIn h b) t m l (p .below) (sym e ∙ z))
+    pub timer-found : Missed (timerIn h b) t m → r ≡ hasMoment t (timerIn h b m) → (rs : List ℕ) → machineOf (AtMachine m) ≡ slotAt t (sideHeld h rs b .timers)
+    unfolding machineOf
+    timer-found p e rs = sym (ap (slotAt t) (timers-are h rs b) ∙ slot-first 16 (timerIn h b) t m l (p .below) (sym e ∙ z))
 
-    pub action-found : Missed (momentIn h b) t m → r ≡ hasMoment t (momentIn h b m) → (rs : List ℕ) → machineOf m ≡ slotAt t (actionMoments (sideHeld h rs b))
-    action-found p e rs = machine-is m l ∙ sym (ap (slotAt t) (moments-are h rs b) ∙ slot-first 16 (momentIn h b) t m l (p .below) (sym e ∙ z))
+    pub action-found : Missed (momentIn h b) t m → r ≡ hasMoment t (momentIn h b m) → (rs : List ℕ) → machineOf (AtMachine m) ≡ slotAt t (actionMoments (sideHeld h rs b))
+    unfolding machineOf
+    action-found p e rs = sym (ap (slotAt t) (moments-are h rs b) ∙ slot-first 16 (momentIn h b) t m l (p .below) (sym e ∙ z))
 
   module _ (l : 16 ≤ m) where
-    pub timer-nowhere : Missed (timerIn h b) t m → (rs : List ℕ) → none ≡ slotAt t (sideHeld h rs b .timers)
+    pub timer-nowhere : Missed (timerIn h b) t m → (rs : List ℕ) → machineOf NoMachine ≡ slotAt t (sideHeld h rs b .timers)
+    unfolding machineOf
     timer-nowhere p rs = sym (ap (slotAt t) (timers-are h rs b) ∙ slot-none 16 (timerIn h b) t (λ i k. p .below i (omega arith)))
 
-    pub action-nowhere : Missed (momentIn h b) t m → (rs : List ℕ) → none ≡ slotAt t (actionMoments (sideHeld h rs b))
+    pub action-nowhere : Missed (momentIn h b) t m → (rs : List ℕ) → machineOf NoMachine ≡ slotAt t (actionMoments (sideHeld h rs b))
+    unfolding machineOf
     action-nowhere p rs = sym (ap (slotAt t) (moments-are h rs b) ∙ slot-none 16 (momentIn h b) t (λ i k. p .below i (omega arith)))
 
 -- ---- the client first
 
-slot-client : (m : ℕ) (o p : Option ℕ) → m < 16 → machineOf m ≡ o → (if ltb m 16 then some (record { side = client; machine = m }) else none) ≡ slotOf o p
-slot-client m o p l e = rw (lt-ltb m 16 l) (ap (λ x. slotOf x p) (sym (machine-is m l) ∙ e))
+-- that machine of a side
+abbrev onSide : Bool → Option ℕ → Option Slot
+onSide client o = Option·map (λ m. record { side = sideOf client; machine = m }) o
 
-slot-server : (m n : ℕ) (o p : Option ℕ) → 16 ≤ m → machineOf m ≡ o → machineOf n ≡ p → (if ltb n 16 then some (record { side = server; machine = n }) else none) ≡ slotOf o p
-slot-server m n o p l e q = go (ltb n 16) ∙ ap₂ slotOf (sym (ap (λ (x : Bool). if x then some m else none) (le-ltb m 16 l)) ∙ e) q
+module _ (b : Bool) (x : Machine) (t : Moment) where
+  pub none-on : x ≡ NoMachine → DueOn b (machineOf x) (t .0) NoSlot
+  unfolding machineOf dueOf DueWhen
+  none-on e = record { when = tt; is = ap (λ (y : Machine). onSide b (machineOf y)) (sym e) }
+
+  pub found-on : (m : ℕ) → x ≡ AtMachine m → DueOn b (machineOf x) (t .0) (AtSlot (record { client = b; machine = m; moment = t }))
+  unfolding machineOf dueOf DueWhen
+  found-on m e = record { when = refl; is = ap (λ (y : Machine). onSide b (machineOf y)) (sym e) }
+
+on-client : (m : ℕ) (x : Machine) (o p : Option ℕ) → x ≡ AtMachine m → machineOf x ≡ o → onSide true (machineOf x) ≡ slotOf o p
+unfolding machineOf
+on-client m x o p e q = ap (λ (y : Machine). onSide true (machineOf y)) e ∙ ap (λ i. slotOf i p) (sym (ap machineOf e) ∙ q)
+
+on-server : (x : Machine) (o p : Option ℕ) → x ≡ NoMachine → machineOf x ≡ o → onSide false p ≡ slotOf o p
+unfolding machineOf
+on-server x o p e q = server p ∙ ap (λ i. slotOf i p) (sym (ap machineOf e) ∙ q)
   where
-    go : (x : Bool) → (if x then some (record { side = server; machine = n }) else none) ≡ slotOf none (if x then some n else none)
-    go true = refl
-    go false = refl
+    server : (i : Option ℕ) → onSide false i ≡ slotOf none i
+    server none = refl
+    server (some m) = refl
 
-module _ (h : List ℕ) (t : Moment) (m : ℕ) where
-  module _ (e : (rs : List ℕ) → machineOf m ≡ slotAt (t .0) (sideHeld h rs true .timers)) where
-    pub timer-client : m < 16 → DueTimer h (t .0) (record { client = true; machine = m; moment = t })
-    timer-client l = record { when = refl; is = λ rs. slot-client m _ _ l (e rs) }
+module _ (h : List ℕ) (t : ℕ) (x : Machine) (r : FirstDue) where
+  module _ (ex : (rs : List ℕ) → machineOf x ≡ slotAt t (sideHeld h rs true .timers)) where
+    pub timer-client : (m : ℕ) → x ≡ AtMachine m → DueOn true (machineOf x) t r → DueTimer h t r
+    timer-client m e p = record { when = p .when; is = λ rs. p .is ∙ on-client m x _ _ e (ex rs) }
 
-    pub timer-server : (n : ℕ) → 16 ≤ m → ((rs : List ℕ) → machineOf n ≡ slotAt (t .0) (sideHeld h rs false .timers)) → DueTimer h (t .0) (record { client = false; machine = n; moment = t })
-    timer-server n l f = record { when = refl; is = λ rs. slot-server m n _ _ l (e rs) (f rs) }
+    pub timer-server : (y : Machine) → x ≡ NoMachine → ((rs : List ℕ) → machineOf y ≡ slotAt t (sideHeld h rs false .timers)) → DueOn false (machineOf y) t r → DueTimer h t r
+    timer-server y e ey p = record { when = p .when; is = λ rs. p .is ∙ ap (onSide false) (ey rs) ∙ on-server x _ _ e (ex rs) }
 
-  module _ (e : (rs : List ℕ) → machineOf m ≡ slotAt (t .0) (actionMoments (sideHeld h rs true))) where
-    pub action-client : m < 16 → DueAction h (t .0) (record { client = true; machine = m; moment = t })
-    action-client l = record { when = refl; is = λ rs. slot-client m _ _ l (e rs) }
+  module _ (ex : (rs : List ℕ) → machineOf x ≡ slotAt t (actionMoments (sideHeld h rs true))) where
+    pub action-client : (m : ℕ) → x ≡ AtMachine m → DueOn true (machineOf x) t r → DueAction h t r
+    action-client m e p = record { when = p .when; is = λ rs. p .is ∙ on-client m x _ _ e (ex rs) }
 
-    pub action-server : (n : ℕ) → 16 ≤ m → ((rs : List ℕ) → machineOf n ≡ slotAt (t .0) (actionMoments (sideHeld h rs false))) → DueAction h (t .0) (record { client = false; machine = n; moment = t })
-    action-server n l f = record { when = refl; is = λ rs. slot-server m n _ _ l (e rs) (f rs) }
+    pub action-server : (y : Machine) → x ≡ NoMachine → ((rs : List ℕ) → machineOf y ≡ slotAt t (actionMoments (sideHeld h rs false))) → DueOn false (machineOf y) t r → DueAction h t r
+    action-server y e ey p = record { when = p .when; is = λ rs. p .is ∙ ap (onSide false) (ey rs) ∙ on-server x _ _ e (ex rs) }
+
+-- ---- a machine that was found is one of the sixteen
+
+Below : ℕ → Option ℕ → Type 0
+Below n none = Unit {0}
+Below n (some m) = m < n
+
+below-suc : (n : ℕ) (o : Option ℕ) → Below n o → Below (suc n) (Option·map suc o)
+unfolding Below
+below-suc n none l = tt
+below-suc n (some m) l = omega arith
+
+below-next : (n t : ℕ) (o : Option ℕ) (l : List (Option ℕ)) → Below n (slotAt t l) → Below (suc n) (slotAt t (o ∷ l))
+unfolding Below
+below-next n t none l p = below-suc n (slotAt t l) p
+below-next n t (some u) l p = go (eqb u t)
+  where
+    go : (b : Bool) → Below (suc n) (if b then some 0 else Option·map suc (slotAt t l))
+    go true = omega arith
+    go false = below-suc n (slotAt t l) p
+
+slot-below : (n : ℕ) (f : ℕ → Option ℕ) (t : ℕ) → Below n (slotAt t (firsts n f))
+unfolding Below
+slot-below zero f t = tt
+slot-below (suc n) f t = below-next n t (f 0) (firsts n (λ i. f (suc i))) (slot-below n (λ i. f (suc i)) t)
+
+OneOf : Option Slot → Type 0
+OneOf none = Unit {0}
+OneOf (some z) = z .machine < 16
+
+slots-below : (o p : Option ℕ) → Below 16 o → Below 16 p → OneOf (slotOf o p)
+unfolding Below OneOf
+slots-below (some m) p l k = l
+slots-below none (some n) l k = k
+slots-below none none l k = tt
+
+timers-below : (h rs : List ℕ) (b : Bool) (t : ℕ) → Below 16 (slotAt t (sideHeld h rs b .timers))
+timers-below h rs b t = rw (timers-are h rs b) (slot-below 16 (timerIn h b) t)
+
+moments-below : (h rs : List ℕ) (b : Bool) (t : ℕ) → Below 16 (slotAt t (actionMoments (sideHeld h rs b)))
+moments-below h rs b t = rw (moments-are h rs b) (slot-below 16 (momentIn h b) t)
+
+module _ (h : List ℕ) (t : ℕ) (r : FirstDue) (d : Due) (e : r ≡ AtSlot d) where
+  pub timer-one : DueTimer h t r → d .machine < 16
+  unfolding OneOf dueOf
+  timer-one p =
+      subst OneOf (sym (ap dueOf (sym e) ∙ p .is []))
+      (slots-below (slotAt t (sideHeld h [] true .timers)) (slotAt t (sideHeld h [] false .timers)) (timers-below h [] true t) (timers-below h [] false t))
+
+  pub action-one : DueAction h t r → d .machine < 16
+  unfolding OneOf dueOf
+  action-one p =
+      subst OneOf (sym (ap dueOf (sym e) ∙ p .is []))
+      (slots-below (slotAt t (actionMoments (sideHeld h [] true))) (slotAt t (actionMoments (sideHeld h [] false))) (moments-below h [] true t) (moments-below h [] false t))

@@ -4,7 +4,7 @@ use mathlib.Core.Path.{_≡_}
 use mathlib.Core.Bool.{Bool, false}
 use mathlib.Core.List.{List}
 use mathlib.Core.Option.{Option, none, some, Option·map}
-use lib.Dec.{eqb, ltb}
+use lib.Dec.{eqb}
 use Rattle.rules.specs.Basics.{if_then_else_, after, absent, Delay}
 use Rattle.rules.specs.State.{Action, State}
 use Rattle.rules.specs.Limits.{momentLimit}
@@ -13,7 +13,10 @@ use Rattle.rules.specs.ChoiceRound.{Slot, Candidate, anEvent, orNone, timerSlot
 use Rattle.event.specs.HandedIn.{sideOf}
 use Rattle.layout.specs.Changes.{sideNo}
 use Rattle.layout.specs.Layout.{stateFrom, bank, lessOne, actionFrom}
-use Rattle.candidate.specs.declared.Due.{Due}
+use Rattle.candidate.specs.declared.Machine.{Machine}
+use Rattle.candidate.specs.declared.Machine.the-variants.{At as AtMachine, Nothing as NoMachine}
+use Rattle.candidate.specs.declared.FirstDue.{FirstDue}
+use Rattle.candidate.specs.declared.FirstDue.the-variants.{At as AtSlot, Nothing as NoSlot}
 use Rattle.candidate.specs.declared.Next.{Next}
 use Rattle.candidate.specs.Candidates.{dueSlot, nextOf, NextStands}
 
@@ -42,22 +45,35 @@ momentIn h client i = Option·map (λ (a : Action). a .moment) (plannedIn h clie
 pub record Missed (f : ℕ → Option ℕ) (t m : ℕ) : Type 0 where
   pub below : (i : ℕ) → i < m → hasMoment t (f i) ≡ false
 
--- ---- what was found: 16 for no machine
+-- ---- what was found
 
-abbrev pub machineOf : ℕ → Option ℕ
-machineOf m = if ltb m 16 then some m else none
+-- `Machine`
+unfoldable pub machineOf : Machine → Option ℕ
+machineOf (AtMachine m) = some m
+machineOf NoMachine = none
 
-abbrev pub dueOf : Due → Option Slot
-dueOf d = if ltb (d .machine) 16 then some (dueSlot d) else none
+-- `FirstDue`
+unfoldable pub dueOf : FirstDue → Option Slot
+dueOf (AtSlot d) = some (dueSlot d)
+dueOf NoSlot = none
 
--- of both sides, at the moment t
-pub record DueTimer (h : List ℕ) (t : ℕ) (d : Due) : Type 0 where
-  pub when : d .moment .0 ≡ t
-  pub is : (rs : List ℕ) → dueOf d ≡ timerSlot (stateFrom h rs) t
+-- what is due has the moment t
+unfoldable pub DueWhen : ℕ → FirstDue → Type 0
+DueWhen t (AtSlot d) = d .moment .0 ≡ t
+DueWhen t NoSlot = Unit {0}
 
-pub record DueAction (h : List ℕ) (t : ℕ) (d : Due) : Type 0 where
-  pub when : d .moment .0 ≡ t
-  pub is : (rs : List ℕ) → dueOf d ≡ actionSlot (stateFrom h rs) t
+-- of a side, where o is its machine, and of both sides; at the moment t
+pub record DueOn (client : Bool) (o : Option ℕ) (t : ℕ) (r : FirstDue) : Type 0 where
+  pub when : DueWhen t r
+  pub is : dueOf r ≡ Option·map (λ m. record { side = sideOf client; machine = m }) o
+
+pub record DueTimer (h : List ℕ) (t : ℕ) (r : FirstDue) : Type 0 where
+  pub when : DueWhen t r
+  pub is : (rs : List ℕ) → dueOf r ≡ timerSlot (stateFrom h rs) t
+
+pub record DueAction (h : List ℕ) (t : ℕ) (r : FirstDue) : Type 0 where
+  pub when : DueWhen t r
+  pub is : (rs : List ℕ) → dueOf r ≡ actionSlot (stateFrom h rs) t
 
 -- ---- what a round takes up
 

@@ -15,6 +15,7 @@ ghost use Rattle.queue.specs.Heads.{PeekedBoth};
 ghost use Rattle.queue_peek.specs.Decoded.{delayOf, delaysOf};
 ghost use Rattle.candidate.specs.Promises.{Picked, Ahead, laterFitting};
 use crate::Candidate;
+use crate::FirstDue;
 use crate::Next;
 use crate::slots;
 use moment::Moment;
@@ -121,11 +122,11 @@ fn timer_candidate(head: &[u64], i: Delay, time: Moment) -> Next
         return Next::Nothing;
     };
     let at = time.plus(l);
-    let d = slots::due_timer(head, at);
-    if d.machine < 16 {
-        return Next::Take(Candidate::Timer(d));
-    }
-    Next::Nothing
+    let first = slots::due_timer(head, at);
+    let FirstDue::At(d) = first else {
+        return Next::Nothing;
+    };
+    Next::Take(Candidate::Timer(d))
 }
 
 // The action that is due after the delay.
@@ -137,11 +138,11 @@ fn action_candidate(head: &[u64], s: Delay, time: Moment) -> Next
         return Next::Nothing;
     };
     let at = time.plus(l);
-    let d = slots::due_action(head, at);
-    if d.machine < 16 {
-        return slots::planned(head, d);
-    }
-    Next::Nothing
+    let first = slots::due_action(head, at);
+    let FirstDue::At(d) = first else {
+        return Next::Nothing;
+    };
+    slots::planned(head, d)
 }
 
 // The last three of the five.

@@ -18,6 +18,18 @@ pub struct Due {
     pub moment: Moment,
 }
 
+// The timer or the action of both sides that is due first, or none.
+pub enum FirstDue {
+    At(Due),
+    Nothing,
+}
+
+// A machine of a side, or none.
+pub enum Machine {
+    At(u64),
+    Nothing,
+}
+
 // An action that is due: its side and machine, and what it is.
 pub struct Planned {
     pub client: bool,

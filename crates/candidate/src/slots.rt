@@ -11,9 +11,11 @@ ghost use Rattle.layout.specs.Changes.{sideNo};
 ghost use Rattle.layout.specs.Layout.{stateFrom};
 ghost use Rattle.queue.specs.Heads.{sideHeld};
 ghost use Rattle.candidate.specs.Candidates.{dueSlot};
-ghost use Rattle.candidate.specs.Promises.{hasMoment, timerIn, momentIn, machineOf, DueTimer, DueAction, Picked};
+ghost use Rattle.candidate.specs.Promises.{hasMoment, timerIn, momentIn, machineOf, DueOn, DueTimer, DueAction, Picked};
 use crate::Candidate;
 use crate::Due;
+use crate::FirstDue;
+use crate::Machine;
 use crate::Next;
 use crate::Planned;
 use event::ActionKind;
@@ -68,76 +70,72 @@ fn action_has(head: &[u64], client: bool, machine: u64, moment: Moment) -> bool
     head[at + 1] == moment.0
 }
 
-// The lowest machine of a side whose timer has the moment; 16 for none.
-pub fn timer_at(head: &[u64], client: bool, moment: Moment) -> u64
+// The lowest machine of a side whose timer has the moment.
+pub fn timer_at(head: &[u64], client: bool, moment: Moment) -> Machine
     requires { ⌜ length (now head) ≡ 256 ⌝ }
     ensures { λ r. ⌜ ((rs : List ℕ) → machineOf r ≡ slotAt (moment .0) (sideHeld (now (head .entry)) rs client .timers)) ⌝ }
 {
     let mut m = 0;
     while m < 16 {
         if timer_has(head, client, m, moment) {
-            return m;
+            return Machine::At(m);
         }
         m = m + 1;
     }
-    16
+    Machine::Nothing
 }
 
-// The lowest machine of a side whose action has the moment; 16 for none.
-pub fn action_at(head: &[u64], client: bool, moment: Moment) -> u64
+// The lowest machine of a side whose action has the moment.
+pub fn action_at(head: &[u64], client: bool, moment: Moment) -> Machine
     requires { ⌜ length (now head) ≡ 256 ⌝ }
     ensures { λ r. ⌜ ((rs : List ℕ) → machineOf r ≡ slotAt (moment .0) (actionMoments (sideHeld (now (head .entry)) rs client))) ⌝ }
 {
     let mut m = 0;
     while m < 16 {
         if action_has(head, client, m, moment) {
-            return m;
+            return Machine::At(m);
         }
         m = m + 1;
     }
-    16
+    Machine::Nothing
+}
+
+// The slot of the machine that was found on a side.
+fn due_on(client: bool, machine: Machine, moment: Moment) -> FirstDue
+    ensures { λ r. ⌜ DueOn client (machineOf machine) (moment .0) r ⌝ }
+{
+    let Machine::At(m) = machine else {
+        return FirstDue::Nothing;
+    };
+    FirstDue::At(Due {
+        client,
+        machine: m,
+        moment,
+    })
 }
 
 // The timer that is due at the moment: the client's first, then the lowest machine's.
-pub fn due_timer(head: &[u64], moment: Moment) -> Due
+pub fn due_timer(head: &[u64], moment: Moment) -> FirstDue
     requires { ⌜ length (now head) ≡ 256 ⌝ }
     ensures { λ r. ⌜ DueTimer (now (head .entry)) (moment .0) r ⌝ }
 {
-    let m = timer_at(head, true, moment);
-    if m < 16 {
-        return Due {
-            client: true,
-            machine: m,
-            moment,
-        };
+    let of_client = timer_at(head, true, moment);
+    if let Machine::At(_) = of_client {
+        return due_on(true, of_client, moment);
     }
-    let n = timer_at(head, false, moment);
-    Due {
-        client: false,
-        machine: n,
-        moment,
-    }
+    due_on(false, timer_at(head, false, moment), moment)
 }
 
 // The action that is due at the moment, in the same order.
-pub fn due_action(head: &[u64], moment: Moment) -> Due
+pub fn due_action(head: &[u64], moment: Moment) -> FirstDue
     requires { ⌜ length (now head) ≡ 256 ⌝ }
     ensures { λ r. ⌜ DueAction (now (head .entry)) (moment .0) r ⌝ }
 {
-    let m = action_at(head, true, moment);
-    if m < 16 {
-        return Due {
-            client: true,
-            machine: m,
-            moment,
-        };
+    let of_client = action_at(head, true, moment);
+    if let Machine::At(_) = of_client {
+        return due_on(true, of_client, moment);
     }
-    let n = action_at(head, false, moment);
-    Due {
-        client: false,
-        machine: n,
-        moment,
-    }
+    due_on(false, action_at(head, false, moment), moment)
 }
 
 // A flag of an action's first word.

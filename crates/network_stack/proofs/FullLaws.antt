@@ -44,7 +44,7 @@ use Rattle.layout.proofs.Shapes.{accepted-shaped}
 use Rattle.queue.proofs.Changing.{count-word, shaped-count}
 use Rattle.network_stack.specs.declared.plan.Plan.{Plan}
 use Rattle.network_stack.specs.declared.plan.Plan.the-variants.{Nothing, Pad, Queue, Send}
-use Rattle.network_stack.specs.Steps.{Planned, afterOf, Small}
+use Rattle.network_stack.specs.Steps.{Planned, afterOf, noRoom, planGivesBack, planRecords}
 use Rattle.network_stack.proofs.PlanLaws.{after-pad, after-send}
 
 -- ---- what a step leaves in reserve: as much as before
@@ -94,30 +94,36 @@ full-by t room us rs free given more er es eu ew = go (ltb (free + given) (rs + 
     go true e = let l = ltb-true (free + given) (rs + more) e in e ∙ sym (lt-ltb (t .room) (used t + reserved t) (omega arith))
     go false e = let l = ltb-false (free + given) (rs + more) e in e ∙ sym (le-ltb (t .room) (used t + reserved t) (omega arith))
 
-module _ (w : List ℕ) (a : Accepted w) (now : ℕ) (e : SimEvent) where
+module _ (w : List ℕ) (a : Accepted w) where
   held : HeldAccepted (stateOf w)
   held = holds-accepted w a
 
   whole : used (stateOf w) + countIn w 0 ≡ (stateOf w) .room
   whole = omega (arith, held .whole, free-length w)
 
-  pub full-nothing : Planned (stateOf w) now e Nothing → false ≡ full (afterOf (stateOf w) now e .state)
+  free-kept : reserved (stateOf w) ≤ countIn w 0
+  free-kept = omega (arith, held .room, whole)
+
+module _ (w : List ℕ) (a : Accepted w) (now : ℕ) (e : SimEvent) where
+  full-nothing : Planned (stateOf w) now e Nothing → ltb (countIn w 0 + 0) (reserved (stateOf w) + 0) ≡ full (afterOf (stateOf w) now e .state)
   unfolding Planned
-  full-nothing p = sym (ap (λ r. full (r .state)) p ∙ le-ltb ((stateOf w) .room) (used (stateOf w) + reserved (stateOf w)) (held .room))
+  full-nothing p =
+      full-by (afterOf (stateOf w) now e .state) ((stateOf w) .room) (used (stateOf w)) (reserved (stateOf w)) (countIn w 0) 0 0 (room-same (stateOf w) now e)
+      (ap (λ r. reserved (r .state)) p) (omega (arith, ap (λ r. used (r .state)) p)) (whole w a)
 
   pub full-queue : (q : SimEvent) → Planned (stateOf w) now e (Queue q) → ltb (countIn w 0 + 0) (reserved (stateOf w) + 1) ≡ full (afterOf (stateOf w) now e .state)
   unfolding Planned
   full-queue q p =
       let r : reserved (afterOf (stateOf w) now e .state) ≡ reserved (stateOf w) = ap (λ r. reserved (r .state)) (p .step) ∙ reserved-push (stateOf w) (eventValue q) in
       full-by (afterOf (stateOf w) now e .state) ((stateOf w) .room) (used (stateOf w)) (reserved (stateOf w)) (countIn w 0) 0 1 (room-same (stateOf w) now e) r
-      (omega (arith, ap (λ r. used (r .state)) (p .step), used-push (stateOf w) (eventValue q))) whole
+      (omega (arith, ap (λ r. used (r .state)) (p .step), used-push (stateOf w) (eventValue q))) (whole w a)
 
   pub full-pad : (q : Padding) → Planned (stateOf w) now e (Pad q) → ltb (countIn w 0 + 0) (reserved (stateOf w) + paddingRecords (paddingOf q)) ≡ full (afterOf (stateOf w) now e .state)
   unfolding Planned
   full-pad q p =
       full-by (afterOf (stateOf w) now e .state) ((stateOf w) .room) (used (stateOf w)) (reserved (stateOf w)) (countIn w 0) 0 (paddingRecords (paddingOf q)) (room-same (stateOf w) now e)
       (ap (λ r. reserved (r .state)) (after-pad (stateOf w) now e (p .kind)) ∙ padding-reserved (stateOf w) now e)
-      (omega (arith, ap (λ r. used (r .state)) (after-pad (stateOf w) now e (p .kind)), padding-used (stateOf w) now (paddedOf e) (waiting-first (stateOf w) (sideOf (e .client)) _ (held .sound)), ap paddingRecords (p .plan))) whole
+      (omega (arith, ap (λ r. used (r .state)) (after-pad (stateOf w) now e (p .kind)), padding-used (stateOf w) now (paddedOf e) (waiting-first (stateOf w) (sideOf (e .client)) _ (held w a .sound)), ap paddingRecords (p .plan))) (whole w a)
 
   pub full-send : (t : Tunnel) → Planned (stateOf w) now e (Send t) → (d : ℕ) → ltb (countIn w 0 + t .stale) (reserved (stateOf w) + (2 + length (aggregatesOf d (sideOf (e .client)) now (delayedOf (t .by))))) ≡ full (afterOf (stateOf w) now e .state)
   unfolding Planned
@@ -125,7 +131,17 @@ module _ (w : List ℕ) (a : Accepted w) (now : ℕ) (e : SimEvent) where
       full-by (afterOf (stateOf w) now e .state) ((stateOf w) .room) (used (stateOf w)) (reserved (stateOf w)) (countIn w 0) (t .stale) (2 + length (aggregatesOf d (sideOf (e .client)) now (delayedOf (t .by)))) (room-same (stateOf w) now e)
       (ap (λ r. reserved (r .state)) (after-send (stateOf w) now e (p .kind)) ∙ tunnel-reserved (stateOf w) now e)
       (omega
-      (arith, ap (λ r. used (r .state)) (after-send (stateOf w) now e (p .kind)), tunnel-used (stateOf w) now (sentOf e), ap (λ x. x .stale) (p .plan), ap (λ x. length (aggregatesOf 0 client 0 (x .by))) (p .plan), aggregates-long ((stateOf w) .settings .networkDelay) (sideOf (e .client)) now (tunnelPlan (stateOf w) now (sentOf e) .by), aggregates-long d (sideOf (e .client)) now (delayedOf (t .by)))) whole
+      (arith, ap (λ r. used (r .state)) (after-send (stateOf w) now e (p .kind)), tunnel-used (stateOf w) now (sentOf e), ap (λ x. x .stale) (p .plan), ap (λ x. length (aggregatesOf 0 client 0 (x .by))) (p .plan), aggregates-long ((stateOf w) .settings .networkDelay) (sideOf (e .client)) now (tunnelPlan (stateOf w) now (sentOf e) .by), aggregates-long d (sideOf (e .client)) now (delayedOf (t .by)))) (whole w a)
+
+-- number 9 by the plan of a step is that of the rules' step
+pub planned-full : (w : List ℕ) → Accepted w → (now : ℕ) (e : SimEvent) (p : Plan) → Planned (stateOf w) now e p → noRoom w p ≡ full (afterOf (stateOf w) now e .state)
+unfolding planRecords planGivesBack
+planned-full w a now e Nothing pl = full-nothing w a now e pl
+planned-full w a now e (Queue q) pl = full-queue w a now e q pl
+planned-full w a now e (Pad q) pl = full-pad w a now e q pl
+planned-full w a now e (Send t) pl =
+    ap (λ n. ltb (countIn w 0 + t .stale) (reserved (stateOf w) + (2 + n))) (sym (aggregates-long 0 (sideOf (e .client)) now (delayedOf (t .by))))
+    ∙ full-send w a now e t pl 0
 
 -- ---- no_room, as the code goes
 
@@ -137,36 +153,36 @@ padding-few (takes h by f) = at-most-two 0 client 0 by
 pub pad-fits : (v : Padding) (r n : ℕ) → r ≤ 166 → n ≡ paddingRecords (paddingOf v) → Fits w64 (r + n)
 pad-fits v r n l e = record { fits = omega (arith, padding-few (paddingOf v)) }
 
-pub send-fits : (w : List ℕ) (p : Plan) (t : Tunnel) → Accepted w → Small p → p ≡ Send t → Fits w64 (getD w 25 0 + t .stale)
-unfolding Small
+pub send-fits : (w : List ℕ) (p : Plan) (t : Tunnel) → Accepted w → planGivesBack p ≤ 65535 → p ≡ Send t → Fits w64 (getD w 25 0 + t .stale)
+unfolding planGivesBack
 send-fits w p t a s e =
-    let l : t .stale ≤ 65535 = subst Small e s in
+    let l : t .stale ≤ 65535 = subst (λ x. planGivesBack x ≤ 65535) e s in
     record { fits = omega (arith, shaped-count w (accepted-shaped w a) 0 (omega arith), count-word w 0 (omega arith)) }
 
 pub by-fits : (o : Option ℕ) (r n : ℕ) → r ≤ 166 → ((d : ℕ) (z : Side) (at : ℕ) → n ≡ length (aggregatesOf d z at o)) → Fits w64 (r + 2 + n)
 by-fits o r n l e = record { fits = omega (arith, e 0 client 0, at-most-two 0 client 0 o) }
 
 module _ (w : List ℕ) (p : Plan) (a : Accepted w) where
-  pub room-nothing : p ≡ Nothing → (now : ℕ) (e : SimEvent) → Planned (stateOf w) now e p → false ≡ full (afterOf (stateOf w) now e .state)
-  room-nothing q now e pl = full-nothing w a now e (subst (Planned (stateOf w) now e) q pl)
+  -- records are kept in reserve, and they are free
+  pub room-nothing : p ≡ Nothing → false ≡ noRoom w p
+  unfolding planRecords planGivesBack
+  room-nothing q = sym (ap (noRoom w) q ∙ le-ltb (countIn w 0 + 0) (reserved (stateOf w) + 0) (omega (arith, free-kept w a)))
 
   module _ (r : ℕ) (er : (r ≡ reserved (stateOf w)) × (r ≤ 166)) where
     free-is : getD w 25 0 ≡ countIn w 0
     free-is = count-word w 0 (omega arith)
 
-    pub room-queue : (v : SimEvent) → p ≡ Queue v → (now : ℕ) (e : SimEvent) → Planned (stateOf w) now e p → ltb (getD w 25 0) (r + 1) ≡ full (afterOf (stateOf w) now e .state)
-    room-queue v q now e pl =
-        ap₂ (λ x y. ltb x (y + 1)) (omega (arith, free-is)) (er .0) ∙ full-queue w a now e v (subst (Planned (stateOf w) now e) q pl)
+    pub room-queue : (v : SimEvent) → p ≡ Queue v → ltb (getD w 25 0) (r + 1) ≡ noRoom w p
+    unfolding planRecords planGivesBack
+    room-queue v q = ap₂ (λ x y. ltb x (y + 1)) (omega (arith, free-is)) (er .0) ∙ sym (ap (noRoom w) q)
 
-    pub room-pad : (v : Padding) (n : ℕ) → p ≡ Pad v → n ≡ paddingRecords (paddingOf v) → (now : ℕ) (e : SimEvent) → Planned (stateOf w) now e p → ltb (getD w 25 0) (r + n) ≡ full (afterOf (stateOf w) now e .state)
-    room-pad v n q en now e pl =
-        ap₂ ltb (omega (arith, free-is)) (ap₂ _+_ (er .0) en) ∙ full-pad w a now e v (subst (Planned (stateOf w) now e) q pl)
+    pub room-pad : (v : Padding) (n : ℕ) → p ≡ Pad v → n ≡ paddingRecords (paddingOf v) → ltb (getD w 25 0) (r + n) ≡ noRoom w p
+    unfolding planRecords planGivesBack
+    room-pad v n q en = ap₂ ltb (omega (arith, free-is)) (ap₂ _+_ (er .0) en) ∙ sym (ap (noRoom w) q)
 
-    pub room-send : (t : Tunnel) (n : ℕ) → p ≡ Send t → ((d : ℕ) (z : Side) (at : ℕ) → n ≡ length (aggregatesOf d z at (delayedOf (t .by)))) → (now : ℕ) (e : SimEvent)
-        → Planned (stateOf w) now e p → ltb (getD w 25 0 + t .stale) (r + 2 + n) ≡ full (afterOf (stateOf w) now e .state)
-    room-send t n q en now e pl =
-        ap₂ ltb (ap (λ x. x + t .stale) free-is) (omega (arith, er .0, en 0 (sideOf (e .client)) now))
-        ∙ full-send w a now e t (subst (Planned (stateOf w) now e) q pl) 0
+    pub room-send : (t : Tunnel) (n : ℕ) → p ≡ Send t → ((d : ℕ) (z : Side) (at : ℕ) → n ≡ length (aggregatesOf d z at (delayedOf (t .by)))) → ltb (getD w 25 0 + t .stale) (r + 2 + n) ≡ noRoom w p
+    unfolding planRecords planGivesBack
+    room-send t n q en = ap₂ ltb (ap (λ x. x + t .stale) free-is) (omega (arith, er .0, en 0 client 0)) ∙ sym (ap (noRoom w) q)
 
 -- ---- reserved
 

@@ -1,11 +1,11 @@
 -- Laws of the plan of a step, kind by kind: the step, its answer and its sums. Assumes nothing.
 use Prim.Native.Nat.{ℕ, zero, suc, _-_, _≤_}
-use mathlib.Core.Path.{_≡_, refl, sym, ap, subst, _∙_, ap₂}
+use mathlib.Core.Path.{_≡_, refl, sym, ap, _∙_, ap₂}
 use mathlib.Core.Bool.{Bool, true, false}
 use mathlib.Core.List.{List}
 use native.Mathlib.Decide.{ℕ-discrete}
 use lib.ListN.{drop, length, take}
-use Rattle.rules.specs.Basics.{TunnelSent, kindOf}
+use Rattle.rules.specs.Basics.{Side, TunnelSent, kindOf}
 use Rattle.rules.specs.State.{State}
 use Rattle.rules.specs.Effects.{afterStep}
 use Rattle.rules.specs.ChoiceRound.{fits}
@@ -23,7 +23,7 @@ use Rattle.layout.proofs.Parts.{head-length, rest-length, rest-part}
 use Rattle.network_stack.specs.declared.plan.Plan.{Plan}
 use Rattle.network_stack.specs.declared.plan.Plan.the-variants.{Nothing, Pad, Queue, Send}
 use Rattle.network_stack.specs.Packets.{Packet, receiptKind}
-use Rattle.network_stack.specs.Steps.{Handed, Planned, afterOf}
+use Rattle.network_stack.specs.Steps.{Handed, Planned, afterOf, planSums}
 
 pub sendable : (e : SimEvent) (now : ℕ) → Handed e now → e .kind .0 ≡ 0 → Sendable e now
 sendable e now h k = record { moment = h .moment; delay = h .delay; time = h .time; back = h .back k }
@@ -116,26 +116,33 @@ active-not k a b s t e r = go (ℕ-discrete k 1) (ℕ-discrete k 2)
 
 -- ---- fit
 
-module _ (p : Plan) (e : SimEvent) (d now : ℕ) where
-  pub fit-nothing : p ≡ Nothing → (s : State) → Planned s now e p → d ≡ s .settings .networkDelay → true ≡ fits (afterOf s now e .sums)
-  unfolding Planned fits
-  fit-nothing q s pl ed = sym (ap (λ r. fits (r .sums)) (subst (Planned s now e) q pl))
+module _ (p : Plan) (z : Side) (d now : ℕ) where
+  pub fit-nothing : p ≡ Nothing → true ≡ fits (planSums d z now p)
+  unfolding planSums fits
+  fit-nothing q = sym (ap (λ x. fits (planSums d z now x)) q)
 
-  pub fit-queue : (v : SimEvent) → p ≡ Queue v → (s : State) → Planned s now e p → d ≡ s .settings .networkDelay → true ≡ fits (afterOf s now e .sums)
-  unfolding Planned fits
-  fit-queue v q s pl ed = sym (ap (λ r. fits (r .sums)) (subst (Planned s now e) q pl .step))
+  pub fit-queue : (v : SimEvent) → p ≡ Queue v → true ≡ fits (planSums d z now p)
+  unfolding planSums fits
+  fit-queue v q = sym (ap (λ x. fits (planSums d z now x)) q)
 
-  pub fit-pad : (v : Padding) (b : Bool) → p ≡ Pad v → b ≡ fits (paddingSums d now (paddingOf v)) → (s : State) → Planned s now e p → d ≡ s .settings .networkDelay → b ≡ fits (afterOf s now e .sums)
-  unfolding Planned
-  fit-pad v b q eb s pl ed =
-      let w = subst (Planned s now e) q pl in
-      eb ∙ ap₂ (λ x y. fits (paddingSums x now y)) ed (w .plan) ∙ padding-sums s now (paddedOf e) ∙ ap (λ r. fits (r .sums)) (sym (after-pad s now e (w .kind)))
+  pub fit-pad : (v : Padding) (b : Bool) → p ≡ Pad v → b ≡ fits (paddingSums d now (paddingOf v)) → b ≡ fits (planSums d z now p)
+  unfolding planSums
+  fit-pad v b q eb = eb ∙ sym (ap (λ x. fits (planSums d z now x)) q)
 
-  pub fit-send : (v : Tunnel) (b : Bool) → p ≡ Send v → b ≡ fits (tunnelSums d (sideOf (e .client)) now (tunnelOf v)) → (s : State) → Planned s now e p → d ≡ s .settings .networkDelay → b ≡ fits (afterOf s now e .sums)
-  unfolding Planned
-  fit-send v b q eb s pl ed =
-      let w = subst (Planned s now e) q pl in
-      eb ∙ ap₂ (λ x y. fits (tunnelSums x (sideOf (e .client)) now y)) ed (w .plan) ∙ tunnel-sums s now (sentOf e) ∙ ap (λ r. fits (r .sums)) (sym (after-send s now e (w .kind)))
+  pub fit-send : (v : Tunnel) (b : Bool) → p ≡ Send v → b ≡ fits (tunnelSums d z now (tunnelOf v)) → b ≡ fits (planSums d z now p)
+  unfolding planSums
+  fit-send v b q eb = eb ∙ sym (ap (λ x. fits (planSums d z now x)) q)
+
+-- the sums of the plan of a step fit where those of the rules' step do
+pub planned-fits : (s : State) (now : ℕ) (e : SimEvent) (p : Plan) (d : ℕ) → Planned s now e p → d ≡ s .settings .networkDelay
+    → fits (planSums d (sideOf (e .client)) now p) ≡ fits (afterOf s now e .sums)
+unfolding Planned planSums fits
+planned-fits s now e Nothing d pl ed = sym (ap (λ r. fits (r .sums)) pl)
+planned-fits s now e (Queue q) d pl ed = sym (ap (λ r. fits (r .sums)) (pl .step))
+planned-fits s now e (Pad v) d pl ed =
+    ap₂ (λ x y. fits (paddingSums x now y)) ed (pl .plan) ∙ padding-sums s now (paddedOf e) ∙ ap (λ r. fits (r .sums)) (sym (after-pad s now e (pl .kind)))
+planned-fits s now e (Send v) d pl ed =
+    ap₂ (λ x y. fits (tunnelSums x (sideOf (e .client)) now y)) ed (pl .plan) ∙ tunnel-sums s now (sentOf e) ∙ ap (λ r. fits (r .sums)) (sym (after-send s now e (pl .kind)))
 
 -- ---- the block lent in two parts
 

@@ -34,7 +34,9 @@ use Rattle.queue.proofs.Changing.{shaped-count}
 use Rattle.queue.proofs.Sizes.{stamps-length}
 use Rattle.network_stack.specs.declared.plan.Plan.{Plan}
 use Rattle.network_stack.specs.declared.plan.Plan.the-variants.{Nothing, Pad, Queue, Send}
-use Rattle.network_stack.specs.Steps.{MayMake, MayStep, Planned, Small, StepDone, afterOf}
+use Rattle.network_stack.specs.Steps.{MayMake, MayStep, Planned, StepDone, afterOf, noRoom, planGivesBack, planSums}
+use Rattle.network_stack.proofs.PlanLaws.{planned-fits}
+use Rattle.network_stack.proofs.FullLaws.{planned-full}
 
 -- ---- a plan gives back no more stamps than there are
 
@@ -42,11 +44,11 @@ side-small : (b : Bool) → 5 + 5 * sideNo (sideOf b) < 12
 side-small true = omega arith
 side-small false = omega arith
 
-pub plan-small : (w : List ℕ) (p : Plan) (now : ℕ) (e : SimEvent) → Accepted w → Planned (stateOf w) now e p → Small p
-unfolding Planned Small tunnelPlan
-plan-small w Nothing now e a pl = tt
-plan-small w (Queue q) now e a pl = tt
-plan-small w (Pad q) now e a pl = tt
+pub plan-small : (w : List ℕ) (p : Plan) (now : ℕ) (e : SimEvent) → Accepted w → Planned (stateOf w) now e p → planGivesBack p ≤ 65535
+unfolding Planned planGivesBack tunnelPlan
+plan-small w Nothing now e a pl = omega arith
+plan-small w (Queue q) now e a pl = omega arith
+plan-small w (Pad q) now e a pl = omega arith
 plan-small w (Send t) now e a pl =
     omega
     (arith, ap (λ x. x .stale) (pl .plan), stamps-length w (sideOf (e .client)), shaped-count w (accepted-shaped w a) (5 + 5 * sideNo (sideOf (e .client))) (side-small (e .client)))
@@ -90,10 +92,13 @@ clash b p q = absurd (false≢true (sym q ∙ p))
 
 -- ---- the call
 
-module _ (w : List ℕ) (e : SimEvent) (now : ℕ) (p : Plan) (may : MayStep w e now) (pl : Planned (stateOf w) now e p) (x : Bool)
-    (ex : (t : ℕ) (v : SimEvent) → Planned (stateOf w) t v p → x ≡ full (afterOf (stateOf w) t v .state)) where
+pub make-may : (w : List ℕ) (e : SimEvent) (now : ℕ) (p : Plan) (x : Bool) → x ≡ false → x ≡ noRoom w p → MayStep w e now → Planned (stateOf w) now e p → MayMake w p e (getD w 0 0) now
+make-may w e now p x f ex may pl =
+    record { accepted = may .accepted; plan = pl; room = sym (planned-full w (may .accepted) now e p pl) ∙ sym ex ∙ f; delay = delay-is w (may .accepted); time = may .handed .time }
+
+module _ (w : List ℕ) (e : SimEvent) (now : ℕ) (p : Plan) (may : MayStep w e now) (pl : Planned (stateOf w) now e p) (x : Bool) (ex : x ≡ noRoom w p) where
   full-is : x ≡ full (afterOf (stateOf w) now e .state)
-  full-is = ex now e pl
+  full-is = ex ∙ planned-full w (may .accepted) now e p pl
 
   pub step-nine : x ≡ true → StepDone w now e (Refused (record { number = 9; rounds = 0 })) w
   unfolding afterOf
@@ -108,10 +113,9 @@ module _ (w : List ℕ) (e : SimEvent) (now : ℕ) (p : Plan) (may : MayStep w e
         ten = λ q. absurd (nine-ten q);
       }
 
-  module _ (no : x ≡ false) (y : Bool)
-      (ey : (s : State) → Planned s now e p → getD w 0 0 ≡ s .settings .networkDelay → y ≡ fits (afterOf s now e .sums)) where
+  module _ (no : x ≡ false) (y : Bool) (ey : y ≡ fits (planSums (getD w 0 0) (sideOf (e .client)) now p)) where
     fits-is : y ≡ fits (afterOf (stateOf w) now e .sums)
-    fits-is = ey (stateOf w) pl (delay-is w (may .accepted))
+    fits-is = ey ∙ planned-fits (stateOf w) now e p (getD w 0 0) pl (delay-is w (may .accepted))
 
     pub step-ten : y ≡ false → StepDone w now e (Refused (record { number = 10; rounds = 0 })) (set w 16 1)
     unfolding afterOf
@@ -135,9 +139,6 @@ module _ (w : List ℕ) (e : SimEvent) (now : ℕ) (p : Plan) (may : MayStep w e
         no-fit = sym fits-is ∙ t
 
     module _ (yes : y ≡ true) where
-      pub make-may : MayMake w p e (getD w 0 0) now
-      make-may = record { accepted = may .accepted; plan = pl; room = sym full-is ∙ no; delay = delay-is w (may .accepted); time = may .handed .time }
-
       pub step-made : (left : List ℕ) (b : Bool) → Leaves w left (afterOf (stateOf w) now e .state)
           → ((s : State) (t : ℕ) (v : SimEvent) → v .kind .0 ≡ e .kind .0 → b ≡ afterOf s t v .answer) → StepDone w now e (Made (record { active = b })) left
       unfolding afterOf

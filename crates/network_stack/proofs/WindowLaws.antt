@@ -7,20 +7,20 @@ use lib.ListN.{getD, length, set}
 use lib.Seq.{getD-set-other, getD-set-same}
 use mir.Val.{Fits}
 use mir.Syntax.{w64}
-use Rattle.queue.specs.Changes.{AppendedTo, Leaves, MayAppend, countIn, headIn}
+use Rattle.queue.specs.Changes.{AppendedTo, AppendedUnstored, Leaves, MayAppend, countIn, headIn}
 use Rattle.rules.specs.State.{Held, State, freePlace, inRecord, side}
 use Rattle.layout.specs.Shape.{Shaped}
 use Rattle.rules.specs.Basics.{Side, client, server}
 use Rattle.queue.specs.Stamps.{addStamp, firstPlace, staleCount}
 use Rattle.queue_event.specs.Tag.{markOf, stampTag}
 use Rattle.layout.specs.Changes.{putChain, sideNo, stampsNo}
-use Rattle.rules.specs.NetworkStep.{stamp}
+use Rattle.rules.specs.NetworkStep.{evict, stamp}
 use Rattle.layout.specs.Layout.{stateOf}
 use Rattle.queue.proofs.Changing.{count-word, head-word, shaped-count, shaped-wide}
 use Rattle.queue.proofs.Sizes.{free-length, leaves-then, stamps-length}
 use Rattle.queue.proofs.States.{free-place}
 use Rattle.layout.proofs.ChainWords.{length-chain}
-use Rattle.queue.proofs.Stamping.{stale-stamps, stamp-done, stamp-mark, stamp-may}
+use Rattle.queue.proofs.Stamping.{stale-left, stale-stamps, stamp-done, stamp-mark, stamp-may}
 use Rattle.network_stack.specs.Windows.{Counted, Evicted, MayCount, lastPlace}
 use Rattle.network_stack.specs.Writes.{MayStamp}
 use Rattle.network_stack.specs.declared.window_count.WindowCount.{WindowCount}
@@ -91,7 +91,7 @@ module _ (w : List ℕ) (z : Side) (v : WindowCount) (now gone : ℕ) (c : MayCo
             count = count-left ∙ stamps-length u z ∙ ap (countIn u) mark;
           }
 
-      module _ (x : List ℕ) (r : ℕ) (joined : AppendedTo u (putChain x (markOf t) r (v .count - gone + 1)) now t) where
+      module _ (x : List ℕ) (r : ℕ) (joined : AppendedUnstored u x (v .count - gone) now t r) where
         abbrev left : List ℕ
         left = putChain x (stampsNo z) r (v .count - gone + 1)
 
@@ -102,7 +102,7 @@ module _ (w : List ℕ) (z : Side) (v : WindowCount) (now gone : ℕ) (c : MayCo
         leaves =
             subst (Leaves w left) made
             (leaves-then w u left _ _ (ev .leaves)
-            (stamp-done u z t shaped one-free tagged left now (subst (λ n. AppendedTo u (putChain x n r (v .count - gone + 1)) now t) (sym mark ∙ no-is z) joined)))
+            (stamp-done u z t shaped one-free tagged left now (subst (λ n. AppendedTo u (putChain x n r (v .count - gone + 1)) now t) (sym mark ∙ no-is z) (joined .stored))))
 
         stamps : side (stamp (stateOf w) z now) z .stamps ≡ side (stateOf u) z .stamps ++ (inRecord (freePlace (stateOf u .free)) now ∷ [])
         stamps = ap (λ s. side s z .stamps) (sym made) ∙ stamps-added (stateOf u) z now
@@ -118,6 +118,16 @@ module _ (w : List ℕ) (z : Side) (v : WindowCount) (now gone : ℕ) (c : MayCo
         count : v .count - gone + 1 ≡ length (side (stamp (stateOf w) z now) z .stamps)
         count = omega (arith, count-left, length-appended (side (stateOf u) z .stamps) (inRecord (freePlace (stateOf u .free)) now), ap length stamps)
 
+        -- the chain's own words: what eviction left
+        evicted : side (stateOf u) z .stamps ≡ evict (stateOf w .settings .window) now (side (stateOf w) z .stamps)
+        evicted = ap (λ s. side s z .stamps) (ev .leaves .state) ∙ stale-left gone (stateOf w) z now stale
+
+        first-word : headIn x (stampsNo z) ≡ firstPlace (evict (stateOf w .settings .window) now (side (stateOf w) z .stamps))
+        first-word = ap (headIn x) (sym (no-is z) ∙ mark) ∙ joined .first ∙ ap (headIn u) (sym mark) ∙ sym (stamps-first u z shaped) ∙ ap firstPlace evicted
+
+        count-word-left : countIn x (stampsNo z) ≡ length (evict (stateOf w .settings .window) now (side (stateOf w) z .stamps))
+        count-word-left = ap (countIn x) (sym (no-is z) ∙ mark) ∙ joined .count ∙ ap (countIn u) (sym mark) ∙ sym (stamps-length u z) ∙ ap length evicted
+
         module _ (b : ℕ) (e : b ≡ getD u 24 0) where
           last : b ≡ lastPlace (side (stamp (stateOf w) z now) z .stamps)
           last =
@@ -125,7 +135,7 @@ module _ (w : List ℕ) (z : Side) (v : WindowCount) (now gone : ℕ) (c : MayCo
               ∙ sym (last-appended (side (stateOf u) z .stamps) (inRecord (freePlace (stateOf u .free)) now)) ∙ ap lastPlace (sym stamps)
 
           pub added-done : Counted w x z now (record { first = r; last = b; count = v .count - gone + 1 })
-          added-done = record { window = λ d. record { first = first d; last = last d; count = count d }; leaves = leaves }
+          added-done = record { window = λ d. record { first = first d; last = last d; count = count d }; leaves = leaves; first = first-word; count = count-word-left }
 
 -- ---- `stamp`
 

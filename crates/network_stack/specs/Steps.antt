@@ -1,12 +1,14 @@
--- A network step on an accepted state: what its plan says of the rules' step, and what the call asks and leaves. Assumes nothing.
-use Prim.Native.Nat.{ℕ, _≤_}
+-- A network step on an accepted state: what its plan says of the rules' step, what any plan forms and takes, and what the call asks and leaves. Assumes nothing.
+use Prim.Native.Nat.{ℕ, _+_, _≤_}
 use mathlib.Core.Path.{_≡_}
 use mathlib.Core.Bool.{Bool, false, true}
-use mathlib.Core.List.{List}
+use mathlib.Core.List.{List, []}
+use lib.Dec.{ltb}
 use lib.ListN.{getD, length}
-use Rattle.rules.specs.Basics.{kindOf}
-use Rattle.rules.specs.State.{State}
+use Rattle.rules.specs.Basics.{Side, client, kindOf}
+use Rattle.rules.specs.State.{State, reserved}
 use Rattle.rules.specs.Limits.{delayLimit, momentLimit}
+use Rattle.rules.specs.Aggregates.{aggregatesOf}
 use Rattle.rules.specs.Effects.{afterStep}
 use Rattle.rules.specs.NetworkStep.{Stepped, queueing, unmoved}
 use Rattle.rules.specs.Refusals.{full}
@@ -20,11 +22,13 @@ use Rattle.layout.specs.Accepted.{Accepted}
 use Rattle.layout.specs.Layout.{stateOf}
 use Rattle.layout.specs.Shape.{Shaped}
 use Rattle.layout.specs.Spare.{Spare}
+use Rattle.queue.specs.Changes.{countIn}
 use Rattle.queue.specs.Pushes.{Canonical}
 use Rattle.event.specs.Values.{eventValue}
+use Rattle.delay.specs.Tests.{delayedOf}
 use Rattle.network.specs.declared.padding.Padding.{Padding}
 use Rattle.network.specs.declared.tunnel.Tunnel.{Tunnel}
-use Rattle.network.specs.Plans.{paddedOf, paddingOf, paddingPlan, sentOf, tunnelOf, tunnelPlan}
+use Rattle.network.specs.Plans.{paddedOf, paddingOf, paddingPlan, paddingRecords, paddingSums, sentOf, tunnelOf, tunnelPlan, tunnelSums}
 use Rattle.network_stack.specs.declared.plan.Plan.{Plan}
 use Rattle.network_stack.specs.declared.plan.Plan.the-variants.{Nothing, Pad, Queue, Send}
 
@@ -64,12 +68,34 @@ Planned s now e (Queue q) = Queues s now e q
 Planned s now e (Pad p) = Pads s now e p
 Planned s now e (Send t) = Sends s now e t
 
--- the stamps that it gives back are no more than there can be records
-unfoldable pub Small : Plan → Type 0
-Small Nothing = Unit {0}
-Small (Queue q) = Unit {0}
-Small (Pad p) = Unit {0}
-Small (Send t) = t .stale ≤ 65535
+-- ---- what any plan forms, takes and gives back
+
+-- the sums that it forms, at side z, with network delay d
+unfoldable pub planSums : ℕ → Side → ℕ → Plan → List ℕ
+planSums d z now Nothing = []
+planSums d z now (Queue q) = []
+planSums d z now (Pad p) = paddingSums d now (paddingOf p)
+planSums d z now (Send t) = tunnelSums d z now (tunnelOf t)
+
+-- the records that it takes: a `TunnelSent` takes one for its stamp, one for `TunnelRecv`, and those of the aggregates
+unfoldable pub planRecords : Plan → ℕ
+planRecords Nothing = 0
+planRecords (Queue q) = 1
+planRecords (Pad p) = paddingRecords (paddingOf p)
+planRecords (Send t) = 2 + length (aggregatesOf 0 client 0 (delayedOf (t .by)))
+
+-- the records that it gives back: those of the stale stamps
+unfoldable pub planGivesBack : Plan → ℕ
+planGivesBack Nothing = 0
+planGivesBack (Queue q) = 0
+planGivesBack (Pad p) = 0
+planGivesBack (Send t) = t .stale
+
+-- what it takes and what is kept in reserve pass what is free and what it gives back
+abbrev pub noRoom : List ℕ → Plan → Bool
+noRoom w p = ltb (countIn w 0 + planGivesBack p) (reserved (stateOf w) + planRecords p)
+
+-- ---- a plan is carried out
 
 -- it may be carried out: number 9 is not given
 pub record MayMake (w : List ℕ) (p : Plan) (e : SimEvent) (d now : ℕ) : Type 0 where

@@ -5,11 +5,11 @@ use mathlib.Core.List.{List, [], _∷_}
 use lib.ListN.{length}
 use Rattle.rules.specs.Basics.{Side}
 use Rattle.rules.specs.State.{Held, side}
-use Rattle.rules.specs.NetworkStep.{stamp}
+use Rattle.rules.specs.NetworkStep.{evict, stamp}
 use Rattle.layout.specs.Layout.{stateOf}
 use Rattle.layout.specs.Shape.{Shaped}
 use Rattle.layout.specs.Changes.{putChain, stampsNo}
-use Rattle.queue.specs.Changes.{Beside, Leaves}
+use Rattle.queue.specs.Changes.{Beside, Leaves, countIn, headIn}
 use Rattle.queue.specs.Stamps.{firstPlace, dropStamps}
 use Rattle.network_stack.specs.Writes.{MayStamp}
 use Rattle.network_stack.specs.declared.window_count.WindowCount.{WindowCount}
@@ -60,7 +60,10 @@ pub record MayCount (w : List ℕ) (z : Side) (v : WindowCount) (now gone : ℕ)
   pub may : MayStamp w z now gone
   pub window : Begins v (side (stateOf w) z .stamps)
 
--- r is the window of the side's stamps, the new one with them; once its first and its count are the chain's words, the state held is what the rules' `stamp` makes
+-- r is the window of the side's stamps, the new one with them; once its first and its count are the chain's words, the state held is what the rules' `stamp` makes.
+-- Until then the chain's words are those of the stamps that are not too old
 pub record Counted (w left : List ℕ) (z : Side) (now : ℕ) (r : WindowCount) : Type 0 where
   pub window : r ≡ windowOf (side (stamp (stateOf w) z now) z .stamps)
   pub leaves : Leaves w (putChain left (stampsNo z) (r .first) (r .count)) (stamp (stateOf w) z now)
+  pub first : headIn left (stampsNo z) ≡ firstPlace (evict (stateOf w .settings .window) now (side (stateOf w) z .stamps))
+  pub count : countIn left (stampsNo z) ≡ length (evict (stateOf w .settings .window) now (side (stateOf w) z .stamps))

@@ -5,11 +5,12 @@ ghost use lib.ListN.{length};
 ghost use Rattle.rules.specs.State.{State};
 ghost use Rattle.rules.specs.Limits.{momentLimit, durationLimit};
 ghost use Rattle.rules.specs.ChoiceRound.{fits};
+ghost use Rattle.event.specs.HandedIn.{sideOf};
 ghost use Rattle.event.specs.declared.SimEvent.{SimEvent as SimEventOf};
 ghost use Rattle.layout.specs.Accepted.{Accepted, Good};
 ghost use Rattle.layout.specs.Layout.{stateFrom, stateOf};
 ghost use Rattle.queue.specs.Changes.{Leaves};
-ghost use Rattle.network_stack.specs.Steps.{afterOf, Handed, Planned, MayMake};
+ghost use Rattle.network_stack.specs.Steps.{afterOf, Handed, Planned, planSums, MayMake};
 use crate::packets;
 use crate::padding;
 use crate::tunnel;
@@ -72,7 +73,7 @@ pub fn active(kind: Kind) -> bool
 // Whether the sums that it forms are within the limit.
 pub fn fit(p: Plan, delay: Length, e: SimEvent, time: Moment) -> bool
     requires { ⌜ delay .0 ≤ durationLimit ⌝ ∗ ⌜ time .0 ≤ momentLimit ⌝ }
-    ensures { λ r. ⌜ ((s : State) → Planned s (time .0) e p → delay .0 ≡ s .settings .networkDelay → r ≡ fits (afterOf s (time .0) e .sums)) ⌝ }
+    ensures { λ r. ⌜ r ≡ fits (planSums (delay .0) (sideOf (e .client)) (time .0) p) ⌝ }
 {
     match p {
         Plan::Nothing => true,

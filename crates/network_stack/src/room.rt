@@ -1,12 +1,10 @@
 // Number 9: whether used and reserved records would exceed R after a step.
 ghost use mathlib.Core.Path.{_≡_};
-ghost use Prim.Native.Nat.{ℕ, _≤_};
+ghost use Prim.Native.Nat.{_≤_};
 ghost use Rattle.rules.specs.State.{reserved as reservedOf};
-ghost use Rattle.rules.specs.Refusals.{full};
-ghost use Rattle.event.specs.declared.SimEvent.{SimEvent as SimEventOf};
 ghost use Rattle.layout.specs.Accepted.{Accepted};
 ghost use Rattle.layout.specs.Layout.{stateOf};
-ghost use Rattle.network_stack.specs.Steps.{afterOf, Planned, Small};
+ghost use Rattle.network_stack.specs.Steps.{planGivesBack, noRoom};
 use crate::plan::Plan;
 
 // The records kept in reserve.
@@ -19,8 +17,8 @@ fn reserved(block: &[u64]) -> u64
 
 // What the plan takes is held against what is free, what it gives back, and what is in reserve.
 pub fn no_room(block: &[u64], p: Plan) -> bool
-    requires { ⌜ Accepted (now block) ⌝ ∗ ⌜ Small p ⌝ }
-    ensures { λ r. ⌜ ((t : ℕ) (e : SimEventOf) → Planned (stateOf (now (block .entry))) t e p → r ≡ full (afterOf (stateOf (now (block .entry))) t e .state)) ⌝ }
+    requires { ⌜ Accepted (now block) ⌝ ∗ ⌜ planGivesBack p ≤ 65535 ⌝ }
+    ensures { λ r. ⌜ r ≡ noRoom (now (block .entry)) p ⌝ }
 {
     let reserve = reserved(block);
     let free = block[25];

@@ -10,7 +10,9 @@ use queue::header;
 use queue::records;
 use queue_event::tag;
 
-// The records of the oldest and of the newest stamp, 0 for none, and how many there are.
+// The records of the oldest and of the newest stamp, 0 for none, and how many there are. A window that is read from the header cannot have the newest:
+// the header has words for a chain's first record and its count alone, and only a walk over the chain finds the last. So `last` is 0 in the window that
+// `stamp` hands in, nothing asks or reads it there, and `add` answers with the record that the new stamp took.
 pub struct WindowCount {
     pub first: u64,
     pub last: u64,
@@ -34,8 +36,8 @@ fn evict(block: &mut [u64], client: bool, oldest: u64, gone: u64) -> u64
 }
 
 impl WindowCount {
-    // The `gone` oldest go, and a free record becomes the last with the time. `last` is not read: the header has no word for it, and the walk
-    // over the stamps that remain finds it. The chain's words in the header are left to the caller.
+    // The `gone` oldest go, and a free record becomes the last with the time. The chain's words in the header stay those of the stamps that remain, and
+    // are the caller's to store.
     fn added(self, block: &mut [u64], client: bool, time: Moment, gone: u64) -> WindowCount
         requires { ⌜ MayCount (now block) (sideOf client) self (time .0) gone ⌝ }
         ensures { λ r. ⌜ Counted (now (block .entry)) (now (block .exit)) (sideOf client) (time .0) r ⌝ }
@@ -72,7 +74,7 @@ impl WindowCount {
     }
 }
 
-// A side's stamp: its window is read from the header, but for the last record, which has no word there; it gets the time, and is stored.
+// A side's stamp: its window is read from the header, it gets the time, and is stored.
 pub fn stamp(block: &mut [u64], client: bool, time: Moment, gone: u64)
     requires { ⌜ MayStamp (now block) (sideOf client) (time .0) gone ⌝ }
     ensures { λ _. ⌜ Leaves (now (block .entry)) (now (block .exit)) (stamp (stateOf (now (block .entry))) (sideOf client) (time .0)) ⌝ }

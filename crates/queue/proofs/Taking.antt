@@ -15,8 +15,10 @@ use Rattle.queue_event.specs.Links.{fresh, Joined}
 use Rattle.queue_event.specs.Order.{insertSorted}
 use Rattle.layout.specs.Shape.{Shapes}
 use Rattle.layout.specs.Changes.{putChain}
+use Rattle.layout.specs.Records.{headOf, countOf}
+use Rattle.layout.proofs.ChainWords.{head-other, count-other}
 use Rattle.layout.proofs.ShapeMoves.{shapes-insert, shapes-append, shapes-tail, shapes-freed}
-use Rattle.queue.specs.Changes.{Changed, MayTake, MayAppend, MayRelease, Queued, AppendedTo, Released, headIn, countIn, chainsIn}
+use Rattle.queue.specs.Changes.{Changed, MayTake, MayAppend, MayRelease, Queued, AppendedTo, AppendedUnstored, Released, headIn, countIn, chainsIn}
 use Rattle.queue.specs.Lent.{OnRecords, MayJoin, MayPop, InsertedIn, AppendedIn, PoppedIn}
 use Rattle.queue.proofs.Changing.{head-word, count-word, shaped-wide, shaped-count, shaped-records, first-in, first-mark, first-is, first-held, restNodes, chain-held, changed}
 
@@ -170,10 +172,10 @@ module _ (w : List ℕ) (first count t : ℕ) (a : MayAppend w first count t) wh
   pub append-join : MayJoin w (markOf t) first count (getD w 24 0)
   append-join = rw (first-is-word, count-is-word) (take-join w 0 t (a .may) (markOf t) refl)
 
-  pub append-done :
+  appended-stored :
       (w₁ left : List ℕ) (m place spare next r : ℕ) → place ≡ getD w 24 0 → spare ≡ getD w 25 0 → next ≡ nextOf (drop 256 w) place → AppendedIn w w₁ first count place m t r
       → left ≡ putChain w₁ 0 next (spare - 1) → AppendedTo w (putChain left (markOf t) r (count + 1)) m t
-  append-done w₁ left m place spare next r ep es en i e =
+  appended-stored w₁ left m place spare next r ep es en i e =
       joined-done w w₁ 0 t r (λ x. x ++ (fresh (headIn w 0) m 0 t ∷ [])) (a .may) (putChain left (markOf t) r (count + 1)) (markOf t) place spare first count next refl ep es first-is-word count-is-word en
       (record {
         front = i .front;
@@ -182,6 +184,28 @@ module _ (w : List ℕ) (first count t : ℕ) (a : MayAppend w first count t) wh
       })
       (ap (λ (x : List ℕ). putChain x (markOf t) r (count + 1)) e)
       (shapes-append (markOf t) (fresh (headIn w 0) m 0 t) (chainsIn w (markOf t)) (a .may .canonical) (shaped-records w (a .may .shaped) (markOf t) (a .may .chain)))
+
+  -- the chain's own words are not among those written
+  module _ (w₁ left : List ℕ) (m place next spare r : ℕ) (i : AppendedIn w w₁ first count place m t r) (e : left ≡ putChain w₁ 0 next (spare - 1)) where
+    first-kept : headIn left (markOf t) ≡ headIn w (markOf t)
+    first-kept =
+        sym (head-word left (markOf t) (a .may .chain)) ∙ ap (λ x. headOf x (markOf t)) e ∙ head-other w₁ 0 next (spare - 1) (markOf t) (λ z. omega (arith, a .may .used))
+        ∙ head-word w₁ (markOf t) (a .may .chain) ∙ ap (λ x. headOf x (markOf t)) (i .front)
+
+    count-kept : countIn left (markOf t) ≡ countIn w (markOf t)
+    count-kept =
+        sym (count-word left (markOf t) (a .may .chain)) ∙ ap (λ x. countOf x (markOf t)) e ∙ count-other w₁ 0 next (spare - 1) (markOf t) (λ z. omega (arith, a .may .used))
+        ∙ count-word w₁ (markOf t) (a .may .chain) ∙ ap (λ x. countOf x (markOf t)) (i .front)
+
+  pub append-done :
+      (w₁ left : List ℕ) (m place spare next r : ℕ) → place ≡ getD w 24 0 → spare ≡ getD w 25 0 → next ≡ nextOf (drop 256 w) place → AppendedIn w w₁ first count place m t r
+      → left ≡ putChain w₁ 0 next (spare - 1) → AppendedUnstored w left count m t r
+  append-done w₁ left m place spare next r ep es en i e =
+      record {
+        stored = appended-stored w₁ left m place spare next r ep es en i e;
+        first = first-kept w₁ left m place next spare r i e;
+        count = count-kept w₁ left m place next spare r i e;
+      }
 
 -- ---- the head of chain k is given back
 

@@ -1,5 +1,5 @@
 -- What a change of the lent words leaves: by the chains that it gives anew, and by the state that is then held. Assumes nothing.
-use Prim.Native.Nat.{ℕ, _≤_, _<_}
+use Prim.Native.Nat.{ℕ, _+_, _≤_, _<_}
 use mathlib.Core.Path.{_≡_}
 use mathlib.Core.List.{List, [], _∷_, _++_, tail}
 use mathlib.Core.Logic.{_⊎_}
@@ -13,6 +13,7 @@ use Rattle.queue_event.specs.Order.{insertSorted}
 use Rattle.layout.specs.Records.{headOf, countOf}
 use Rattle.layout.specs.Layout.{chains, stateOf}
 use Rattle.layout.specs.Shape.{RecordShape, Shaped}
+use Rattle.layout.specs.Changes.{putChain}
 use Rattle.layout.proofs.Banks.{upd}
 
 -- the head of chain k, how many records it has, and what they hold
@@ -66,6 +67,12 @@ pub record MayAppend (w : List ℕ) (a n t : ℕ) : Type 0 where
 -- it stands at the end
 abbrev pub AppendedTo : List ℕ → List ℕ → ℕ → ℕ → Type 0
 AppendedTo w left m t = Changed w left (markOf t) (chainsIn w (markOf t) ++ (fresh (headIn w 0) m 0 t ∷ [])) (tail (chainsIn w 0))
+
+-- it will stand there once the chain's words are given anew, with record r in front and one more than n; until then they are as they were
+pub record AppendedUnstored (w left : List ℕ) (n m t r : ℕ) : Type 0 where
+  pub stored : AppendedTo w (putChain left (markOf t) r (n + 1)) m t
+  pub first : headIn left (markOf t) ≡ headIn w (markOf t)
+  pub count : countIn left (markOf t) ≡ countIn w (markOf t)
 
 -- ---- the head of a chain is given back
 

@@ -9,7 +9,7 @@ ghost use Rattle.queue_event.specs.Words.{nextOf, In};
 ghost use Rattle.queue_event.specs.Tag.{markOf};
 ghost use Rattle.layout.specs.Layout.{stateOf};
 ghost use Rattle.layout.specs.Changes.{putChain};
-ghost use Rattle.queue.specs.Changes.{Leaves, MayTake, MayAppend, Queued, AppendedTo, MayRelease, Released};
+ghost use Rattle.queue.specs.Changes.{Leaves, MayTake, MayAppend, Queued, AppendedUnstored, MayRelease, Released};
 ghost use Rattle.queue.specs.Lent.{Wide, MayJoin, MayPop, InsertedIn, AppendedIn, PoppedIn};
 ghost use Rattle.queue.specs.Pushes.{MayPush, MayAdd, chainPlace};
 ghost use Rattle.event.specs.Values.{eventValue};
@@ -96,10 +96,10 @@ pub fn queue_record(block: &mut [u64], moment: Moment, length: Length, tag: u64)
 }
 
 // A free record becomes the last of the chain of the tag, which begins with `first` and has `count`. Answers the record that it begins with now; the
-// chain's own words in the header are left to the caller.
+// chain's own words in the header stay as they were, and are the caller's to store.
 pub fn append_record(block: &mut [u64], first: u64, count: u64, moment: Moment, tag: u64) -> u64
     requires { ⌜ MayAppend (now block) first count tag ⌝ }
-    ensures { λ r. ⌜ AppendedTo (now (block .entry)) (putChain (now (block .exit)) (markOf tag) r (count + 1)) (moment .0) tag ⌝ }
+    ensures { λ r. ⌜ AppendedUnstored (now (block .entry)) (now (block .exit)) count (moment .0) tag r ⌝ }
 {
     let place = block[24];
     let spare = block[25];

@@ -34,7 +34,7 @@ pub struct Delays {
 impl Delays {
     // None reckoned yet.
     pub fn none() -> Self
-        ensures { λ r. ⌜ delaysOf r ≡ noDelays ⌝ }
+        ensures { λ r. ⌜ (delaysOf r ≡ noDelays) × (r .found ≡ Found.Nothing) ⌝ }
     {
         Self {
             s: Delay::Absent,
@@ -49,7 +49,7 @@ impl Delays {
     // s: the least delay of an action at or after the time.
     pub fn peek_scheduled_action(mut self, head: &[u64], time: Moment) -> Self
         requires { ⌜ length (now head) ≡ 256 ⌝ }
-        ensures { λ r. ⌜ ((rs : List ℕ) → delaysOf r ≡ withS (delaysOf self) (actionDelay (stateFrom (now (head .entry)) rs) (time .0))) ⌝ }
+        ensures { λ r. ⌜ ((rs : List ℕ) → delaysOf r ≡ withS (delaysOf self) (actionDelay (stateFrom (now (head .entry)) rs) (time .0))) × (r .found ≡ self .found) ⌝ }
     {
         let i = self.i;
         let b = self.b;
@@ -73,7 +73,7 @@ impl Delays {
     // i: the least delay of a timer at or after the time.
     pub fn peek_scheduled_internal_timer(mut self, head: &[u64], time: Moment) -> Self
         requires { ⌜ length (now head) ≡ 256 ⌝ }
-        ensures { λ r. ⌜ ((rs : List ℕ) → delaysOf r ≡ withI (delaysOf self) (timerDelay (stateFrom (now (head .entry)) rs) (time .0))) ⌝ }
+        ensures { λ r. ⌜ ((rs : List ℕ) → delaysOf r ≡ withI (delaysOf self) (timerDelay (stateFrom (now (head .entry)) rs) (time .0))) × (r .found ≡ self .found) ⌝ }
     {
         let s = self.s;
         let b = self.b;
@@ -97,7 +97,7 @@ impl Delays {
     // b: the earlier block end since the time.
     pub fn peek_blocked_exp(mut self, head: &[u64], time: Moment) -> Self
         requires { ⌜ length (now head) ≡ 256 ⌝ }
-        ensures { λ r. ⌜ ((rs : List ℕ) → delaysOf r ≡ withB (delaysOf self) (blockDelay (stateFrom (now (head .entry)) rs) (time .0))) ⌝ }
+        ensures { λ r. ⌜ ((rs : List ℕ) → delaysOf r ≡ withB (delaysOf self) (blockDelay (stateFrom (now (head .entry)) rs) (time .0))) × (r .found ≡ self .found) ⌝ }
     {
         let s = self.s;
         let i = self.i;
@@ -130,7 +130,7 @@ impl Delays {
     // n: the first aggregate since the time.
     pub fn peek_aggregate_delay(mut self, head: &[u64], rest: &[u64], time: Moment) -> Self
         requires { ⌜ length (now head) ≡ 256 ⌝ ∗ ⌜ Good (now head) (now rest) ⌝ }
-        ensures { λ r. ⌜ delaysOf r ≡ withN (delaysOf self) (aggregateDelay (stateFrom (now (head .entry)) (now (rest .entry))) (time .0)) ⌝ }
+        ensures { λ r. ⌜ (delaysOf r ≡ withN (delaysOf self) (aggregateDelay (stateFrom (now (head .entry)) (now (rest .entry))) (time .0))) × (r .found ≡ self .found) ⌝ }
     {
         let s = self.s;
         let i = self.i;

@@ -33,7 +33,7 @@ returns-2 : tie.Need-returns-2
 returns-2 c = search (step-ten, not-true)
 
 make-requires : tie.Need-make-requires
-make-requires c κs = search (make-may, not-false)
+make-requires c κs = search make-may
 
 active-requires : tie.Need-active-requires
 active-requires c κs = search needs

@@ -26,11 +26,11 @@ returns : tie.Need-returns
 returns c =
     all-filled
     _ _ _ _ _ _ _ _ _
-    (c .before .before .before .before .before .none .ensures)
-    (c .before .before .before .before .peek-scheduled-action .ensures)
-    (c .before .before .before .peek-scheduled-internal-timer .ensures)
-    (c .before .before .peek-blocked-exp .ensures)
-    (c .before .peek-aggregate-delay .ensures)
+    (c .before .before .before .before .before .none .ensures .0)
+    (c .before .before .before .before .peek-scheduled-action .ensures .0)
+    (c .before .before .before .peek-scheduled-internal-timer .ensures .0)
+    (c .before .before .peek-blocked-exp .ensures .0)
+    (c .before .peek-aggregate-delay .ensures .0)
     (c .peek-queue .ensures)
 
 pub delays-spec : {M : Type 1} → statement M
