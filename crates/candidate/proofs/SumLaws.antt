@@ -10,9 +10,9 @@ use lib.ListN.{getD}
 use borrow.Author.Tests.{not-true, not-false, le-leb, lt-leb, leb-true, leb-false}
 use Rattle.rules.specs.Basics.{if_then_else_}
 use Rattle.rules.specs.Limits.{momentLimit, durationLimit}
-use Rattle.rules.specs.Aggregates.{baseMoment, onExpire, aggregatesOf}
+use Rattle.rules.specs.Aggregates.{baseMoment, onExpire, aggregatesOf, someSum}
 use Rattle.rules.specs.ChoiceHeads.{waitingHead}
-use Rattle.rules.specs.ChoiceRound.{fits, someSum, alwaysSums, candidateSums, raisedSum, heldUpLength, aBlock}
+use Rattle.rules.specs.ChoiceRound.{fits, alwaysSums, candidateSums, raisedSum, heldUpLength, aBlock}
 use Rattle.event.specs.declared.AggregateDelay.{AggregateDelay}
 use Rattle.event.specs.HandedIn.{sideOf, aggregateIn}
 use Rattle.layout.specs.Header.{Limited}

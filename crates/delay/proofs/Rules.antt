@@ -2,14 +2,12 @@
 use Prim.Native.Nat.{ℕ, max, _-_}
 use mathlib.Core.Path.{_≡_, refl, ap}
 use mathlib.Core.List.{List, [], _∷_}
-use mathlib.Core.Option.{Option, Option·getD, Option·map, none, some}
-use mathlib.Core.Bool.{Bool}
+use mathlib.Core.Option.{none, some}
 use lib.Dec.{leb, ltb, eqb}
 use lib.ListN.{length}
 use Rattle.rules.specs.Basics.{if_then_else_}
-use Rattle.rules.specs.ChoiceRound.{someSum}
 use Rattle.rules.specs.State.{Event, Held, SideState}
-use Rattle.rules.specs.Aggregates.{anyWithin, waiting, within, baseMoment, baseWindow, adjacentWindow, bufferWindow, tailOf, burstTail, onExpire, onReplace, onDelayed, testSums}
+use Rattle.rules.specs.Aggregates.{waiting, within, baseMoment, baseWindow, bufferWindow, tailOf, burstTail, onExpire, onReplace, onDelayed, testSums}
 use Rattle.delay.specs.Waiting.{tailOver, burstTailOver}
 use Rattle.delay.specs.Tests.{usualMargins, expireOver, replaceOver, delayedOver, sumsOver}
 
@@ -37,8 +35,4 @@ delayed-usual x sum u = refl
 
 pub sums-usual : (x : SideState) (sum u : ℕ) → sumsOver usualMargins sum x u ≡ testSums x sum u
 unfolding sumsOver
-sums-usual x sum u = go (baseMoment sum (x .queues .base)) (anyWithin adjacentWindow u (waiting x))
-  where
-    go : (o : Option ℕ) (t : Bool) → (if t then [] else someSum o) ≡ (if t then [] else Option·getD (Option·map (λ (n : ℕ). n ∷ []) o) [])
-    go none t = refl
-    go (some n) t = refl
+sums-usual x sum u = refl

@@ -6,9 +6,8 @@ use mathlib.Core.List.{List, [], tail}
 use mathlib.Core.Option.{Option, none, some}
 use lib.Dec.{eqb}
 use Rattle.rules.specs.Basics.{if_then_else_}
-use Rattle.rules.specs.ChoiceRound.{someSum}
+use Rattle.rules.specs.Aggregates.{someSum, anyWithin, waiting, within, baseMoment, bufferWindow, baseWindow, adjacentWindow}
 use Rattle.rules.specs.State.{SideState, queue, withQueue, withQueues}
-use Rattle.rules.specs.Aggregates.{anyWithin, waiting, within, baseMoment, bufferWindow, baseWindow, adjacentWindow}
 use Rattle.queue.specs.Heads.{chainAt}
 use Rattle.delay.specs.declared.Delayed.{Delayed}
 use Rattle.delay.specs.declared.Delayed.the-variants.{Nothing as NotDelayed, By}

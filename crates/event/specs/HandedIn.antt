@@ -1,8 +1,8 @@
 -- The declared structs as the rules' own types; all that this crate takes from the rules is imported here. Assumes nothing.
 use Prim.Native.Nat.{ℕ}
 use mathlib.Core.Bool.{Bool, true, false}
-use mathlib.Core.Option.{Option·map, Option·getD}
-use Rattle.rules.specs.Basics.{Side, client, server, kindOf, hasMachine, isSome}
+use Rattle.rules.specs.Basics.{Side, client, server, isSome}
+unfoldable pub use Rattle.rules.specs.Basics.{hasMachineNo}
 use Rattle.rules.specs.State.{Aggregate}
 use Rattle.rules.specs.Arguments.{EventIn, ActionIn, actionKindOf}
 use Rattle.event.specs.declared.SimEvent.{SimEvent}
@@ -35,10 +35,6 @@ actionIn a = record { kind = a .kind .0; moment = a .moment .0; duration = a .du
 -- a pending aggregate
 abbrev pub aggregateIn : AggregateDelay → Aggregate
 aggregateIn a = record { moment = a .moment .0; length = a .length .0; side = sideOf (a .client) }
-
--- the kind of this number has a machine; a number above 9 is no kind
-unfoldable pub hasMachineNo : ℕ → Bool
-hasMachineNo n = Option·getD (Option·map hasMachine (kindOf n)) false
 
 -- the number is that of an action that a slot may hold
 unfoldable pub isActionNo : ℕ → Bool

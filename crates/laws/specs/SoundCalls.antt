@@ -9,7 +9,7 @@ use native.Mathlib.Omega.{arith}
 use lib.Dec.{leb, ltb}
 use lib.ListN.{length, set, getD, length-set}
 use borrow.Author.Tests.{leb-false, ltb-false}
-use Rattle.rules.specs.Basics.{if_then_else_, Side, client, server, Kind, kindOf, hasMachine}
+use Rattle.rules.specs.Basics.{if_then_else_, Side, client, server, Kind, kindOf, hasMachine, hasMachineNo}
 use Rattle.rules.specs.State.{ActionKind, SendPadding, BlockOutgoing, SideState, State, withTimers, withActions, withEnded, side, used}
 use Rattle.rules.specs.Limits.{momentLimit, durationLimit, delayLimit}
 use Rattle.rules.specs.Queueing.{chainOf}
@@ -119,7 +119,7 @@ ended-sound : (s : State) → Sound s → Sound (withEnded s true)
 ended-sound s h = same-sound s (withEnded s true) h refl refl refl
 
 work-leaves : (s : State) (c : Call) → Accepted s → refusal s c ≡ none → Sound (work s c .state)
-unfolding work refusal table
+unfolding work refusal table hasMachineNo
 work-leaves s (push r) h g =
     let t : AllFalse (table s (push r)) = none-met (table s (push r)) g in
     push-leaves s r (kindOf (r .kind)) (h .sound) (t .1 .0) (t .1 .1 .1 .0)

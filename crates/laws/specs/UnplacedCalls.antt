@@ -3,9 +3,9 @@ use Prim.Native.Nat.{ℕ, _+_}
 use mathlib.Core.Path.{_≡_, refl, sym, ap, _∙_}
 use mathlib.Core.Bool.{Bool, true, false, not, _&&_, _||_}
 use mathlib.Core.List.{List, [], _∷_}
-use mathlib.Core.Option.{Option, none, some, Option·map, Option·getD}
+use mathlib.Core.Option.{Option, none, some}
 use lib.Dec.{leb, ltb, eqb}
-use Rattle.rules.specs.Basics.{if_then_else_, Side, client, server, Kind, kindOf, hasMachine, isSome}
+use Rattle.rules.specs.Basics.{if_then_else_, Side, client, server, Kind, kindOf, hasMachineNo, isSome}
 use Rattle.rules.specs.State.{ActionKind, SideState, State, withEnded}
 use Rattle.rules.specs.Limits.{momentLimit}
 use Rattle.rules.specs.ChoiceRound.{Slot, clearTimer, clearAction, fits}
@@ -60,7 +60,7 @@ no-machine-unplaced s z = sym (ap (λ (x : SideState). leb (x .fixed .machines) 
 
 event-machine-unplaced : (s : State) (r : EventIn) → eventNoMachine s r ≡ eventNoMachine (unplacedState s) r
 event-machine-unplaced s r =
-    ap (λ (b : Bool). Option·getD (Option·map hasMachine (kindOf (r .kind))) false && b) (no-machine-unplaced s (record { side = r .side; machine = r .machine }))
+    ap (λ (b : Bool). hasMachineNo (r .kind) && b) (no-machine-unplaced s (record { side = r .side; machine = r .machine }))
 
 full-alike : (s t : State) → Alike s t → full s ≡ full t
 full-alike s t h = sym (same s) ∙ ap full h ∙ same t

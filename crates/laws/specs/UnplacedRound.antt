@@ -3,16 +3,16 @@ use Prim.Native.Nat.{ℕ, zero, suc, _+_, _-_, max}
 use mathlib.Core.Path.{_≡_, refl, sym, ap, _∙_}
 use mathlib.Core.Bool.{Bool, true, false, not, _&&_, _||_}
 use mathlib.Core.List.{List, [], _∷_, _++_, tail, map}
-use mathlib.Core.Option.{Option, none, some, Option·map, Option·getD}
+use mathlib.Core.Option.{Option, none, some}
 use lib.Dec.{leb, ltb, eqb}
 use lib.ListN.{length}
 use Rattle.rules.specs.Basics.{if_then_else_, Side, client, server}
 use Rattle.rules.specs.State.{Event, Held, Action, ActionKind, SendPadding, BlockOutgoing, Aggregate, Chain, base, blocking, bypassable, internal, SideState, State, withQueue, withQueues, withSum, withBlock, side, withSide, withAggregates, withFree, withEnded, roundsLeft}
 use Rattle.rules.specs.ChoiceHeads.{Head, waitingHead}
 use Rattle.rules.specs.Queueing.{pushEvent}
-use Rattle.rules.specs.Aggregates.{bufferWindow, baseWindow, adjacentWindow, waiting, baseMoment, within, anyWithin, tailOf, burstTail, onExpire, onReplace, onDelayed, testSums, aggregatesOf, addAggregates}
+use Rattle.rules.specs.Aggregates.{bufferWindow, baseWindow, adjacentWindow, waiting, baseMoment, within, anyWithin, tailOf, burstTail, onExpire, onReplace, onDelayed, testSums, aggregatesOf, addAggregates, someSum}
 use Rattle.rules.specs.ChoiceDelays.{Block}
-use Rattle.rules.specs.ChoiceRound.{Slot, Candidate, anAggregate, aBlock, anEvent, aTimer, anAction, none-left, RoundOutcome, next, taken, nothing, passed, raisedSum, takeAggregate, endMoment, endEvent, heldUpLength, endAggregates, clearBlock, endBlock, eventAt, shifted, takenEvent, popSide, liftEvent, takeEvent, timerEvent, clearTimer, clearAction, noAction, setsBlock, actedSide, actedEvent, doAction, actionSums, act, candidate, candidateSums, someSum, alwaysSums, roundSums, fits, closed, round}
+use Rattle.rules.specs.ChoiceRound.{Slot, Candidate, anAggregate, aBlock, anEvent, aTimer, anAction, none-left, RoundOutcome, next, taken, nothing, passed, raisedSum, takeAggregate, endMoment, endEvent, heldUpLength, endAggregates, clearBlock, endBlock, eventAt, shifted, takenEvent, popSide, liftEvent, takeEvent, timerEvent, clearTimer, clearAction, noAction, setsBlock, actedSide, actedEvent, doAction, actionSums, act, candidate, candidateSums, alwaysSums, roundSums, fits, closed, round}
 use Rattle.rules.specs.Choice.{Called, event, nothing-left, refused, settle, rounds, choose}
 use Rattle.laws.specs.Unplaced.{unplacedList, unplaced, unplacedSide, unplacedState, Alike, unplaced-length, unplaced-tail, unplaced-append, side-unplaced, with-unplaced, unplaced-state-twice, settled, push-unplaced, add-unplaced, roundsLeft-unplaced}
 use Rattle.laws.specs.Branches.{if-both}
@@ -64,7 +64,7 @@ on-delayed-unplaced x sum u = λ d. not (any-waiting-unplaced x u d) && not (wit
 
 pub test-sums-unplaced : (x : SideState) (sum u : ℕ) → testSums (unplacedSide x) sum u ≡ testSums x sum u
 test-sums-unplaced x sum u =
-    λ d. if any-waiting-unplaced x u d then [] else Option·getD (Option·map (λ (t : ℕ). t ∷ []) (base-moment-unplaced sum (x .queues .base) d)) []
+    λ d. if any-waiting-unplaced x u d then [] else someSum (base-moment-unplaced sum (x .queues .base) d)
 
 -- ---- what a round makes of its candidate
 

@@ -10,8 +10,8 @@ use lib.ListN.{length}
 use Rattle.rules.specs.Basics.{Side, client, server}
 use Rattle.rules.specs.State.{Aggregate}
 use Rattle.rules.specs.Limits.{momentLimit}
-use Rattle.rules.specs.Aggregates.{aggregatesOf}
-use Rattle.rules.specs.ChoiceRound.{fits, someSum}
+use Rattle.rules.specs.Aggregates.{aggregatesOf, someSum}
+use Rattle.rules.specs.ChoiceRound.{fits}
 use Rattle.moment.specs.declared.Length.{Length}
 use Rattle.moment.specs.declared.Moment.{Moment}
 use Rattle.event.specs.HandedIn.{sideOf}

@@ -10,9 +10,9 @@ use lib.Dec.{lit<}
 use lib.ListN.{length, getD}
 use Rattle.rules.specs.Basics.{Side, client, server, if_then_else_}
 use Rattle.rules.specs.State.{Event, SideState, State, side, withSide}
-use Rattle.rules.specs.Aggregates.{aggregatesOf, onReplace, testSums}
+use Rattle.rules.specs.Aggregates.{aggregatesOf, onReplace, testSums, someSum}
 use Rattle.rules.specs.ChoiceHeads.{Head, waitingHead}
-use Rattle.rules.specs.ChoiceRound.{fits, liftEvent, popSide, someSum}
+use Rattle.rules.specs.ChoiceRound.{fits, liftEvent, popSide}
 use Rattle.rules.specs.NetworkStep.{asPadding, replaceBy, replacing, stepPadding, unmoved}
 use Rattle.event.specs.declared.SimEvent.{SimEvent}
 use Rattle.event.specs.HandedIn.{sideOf}

@@ -11,8 +11,8 @@ use borrow.Author.Tests.{lt-ltb}
 use Rattle.rules.specs.Basics.{Side, client, server, other, if_then_else_, TunnelRecv}
 use Rattle.rules.specs.State.{Event, SideState, State, side}
 use Rattle.rules.specs.Limits.{momentLimit, durationLimit}
-use Rattle.rules.specs.Aggregates.{aggregatesOf, onDelayed, testSums}
-use Rattle.rules.specs.ChoiceRound.{fits, someSum}
+use Rattle.rules.specs.Aggregates.{aggregatesOf, onDelayed, testSums, someSum}
+use Rattle.rules.specs.ChoiceRound.{fits}
 use Rattle.rules.specs.NetworkStep.{stampsKept, extraOver, packet, rateOf, reported, stamp, stepTunnel}
 use Rattle.moment.specs.declared.Length.{Length}
 use Rattle.moment.specs.declared.Moment.{Moment}

@@ -12,9 +12,9 @@ use Rattle.rules.specs.State.{Event, SideState, State, inRecord, side}
 use Rattle.rules.specs.Limits.{momentLimit, durationLimit, delayLimit}
 use Rattle.rules.specs.Arguments.{eventOf as handedOver}
 use Rattle.rules.specs.ChoiceHeads.{Head, waitingHead}
-use Rattle.rules.specs.ChoiceRound.{liftEvent, someSum}
+use Rattle.rules.specs.ChoiceRound.{liftEvent}
+use Rattle.rules.specs.Aggregates.{someSum, addAggregates, aggregatesOf, onDelayed, onReplace, testSums}
 use Rattle.rules.specs.Queueing.{pushEvent, putEvent}
-use Rattle.rules.specs.Aggregates.{addAggregates, aggregatesOf, onDelayed, onReplace, testSums}
 use Rattle.rules.specs.NetworkStep.{Stepped, packet, unmoved, asPadding, letPass, stampsKept, extraOver, rateOf, reported, stamp}
 use Rattle.event.specs.declared.SimEvent.{SimEvent}
 use Rattle.event.specs.HandedIn.{eventIn}

@@ -9,9 +9,9 @@ use lib.ListN.{length}
 use Rattle.rules.specs.Basics.{TunnelSent, if_then_else_}
 use Rattle.rules.specs.State.{Event, State, side}
 use Rattle.rules.specs.Limits.{durationLimit}
-use Rattle.rules.specs.Aggregates.{addAggregates, aggregatesOf}
+use Rattle.rules.specs.Aggregates.{addAggregates, aggregatesOf, someSum}
 use Rattle.rules.specs.ChoiceHeads.{Head as RulesHead, waitingHead}
-use Rattle.rules.specs.ChoiceRound.{liftEvent, someSum}
+use Rattle.rules.specs.ChoiceRound.{liftEvent}
 use Rattle.rules.specs.Queueing.{pushEvent}
 use Rattle.rules.specs.NetworkStep.{packet, stamp, stepPadding, stepTunnel}
 use Rattle.laws.specs.Heads.{HeadOf, waiting-first}

@@ -14,7 +14,7 @@ use Rattle.rules.specs.Basics.{Side, client, server}
 use Rattle.queue.specs.Stamps.{addStamp, firstPlace, staleCount}
 use Rattle.queue_event.specs.Tag.{markOf, stampTag}
 use Rattle.layout.specs.Changes.{putChain, sideNo, stampsNo}
-use Rattle.rules.specs.NetworkStep.{evict, stamp}
+use Rattle.rules.specs.NetworkStep.{stamp, stampsKept}
 use Rattle.layout.specs.Layout.{stateOf}
 use Rattle.queue.proofs.Changing.{count-word, head-word, shaped-count, shaped-wide}
 use Rattle.queue.proofs.Sizes.{free-length, leaves-then, stamps-length}
@@ -119,13 +119,13 @@ module _ (w : List ℕ) (z : Side) (v : WindowCount) (now gone : ℕ) (c : MayCo
         count = omega (arith, count-left, length-appended (side (stateOf u) z .stamps) (inRecord (freePlace (stateOf u .free)) now), ap length stamps)
 
         -- the chain's own words: what eviction left
-        evicted : side (stateOf u) z .stamps ≡ evict (stateOf w .settings .window) now (side (stateOf w) z .stamps)
+        evicted : side (stateOf u) z .stamps ≡ stampsKept (stateOf w .settings .window) now (side (stateOf w) z .stamps)
         evicted = ap (λ s. side s z .stamps) (ev .leaves .state) ∙ stale-left gone (stateOf w) z now stale
 
-        first-word : headIn x (stampsNo z) ≡ firstPlace (evict (stateOf w .settings .window) now (side (stateOf w) z .stamps))
+        first-word : headIn x (stampsNo z) ≡ firstPlace (stampsKept (stateOf w .settings .window) now (side (stateOf w) z .stamps))
         first-word = ap (headIn x) (sym (no-is z) ∙ mark) ∙ joined .first ∙ ap (headIn u) (sym mark) ∙ sym (stamps-first u z shaped) ∙ ap firstPlace evicted
 
-        count-word-left : countIn x (stampsNo z) ≡ length (evict (stateOf w .settings .window) now (side (stateOf w) z .stamps))
+        count-word-left : countIn x (stampsNo z) ≡ length (stampsKept (stateOf w .settings .window) now (side (stateOf w) z .stamps))
         count-word-left = ap (countIn x) (sym (no-is z) ∙ mark) ∙ joined .count ∙ ap (countIn u) (sym mark) ∙ sym (stamps-length u z) ∙ ap length evicted
 
         module _ (b : ℕ) (e : b ≡ getD u 24 0) where

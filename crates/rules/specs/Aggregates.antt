@@ -2,7 +2,7 @@
 use Prim.Native.Nat.{_*_, _+_, _-_, max, ℕ}
 use mathlib.Core.Bool.{Bool, _&&_, _||_, false, not}
 use mathlib.Core.List.{List, [], _++_, _∷_, tail}
-use mathlib.Core.Option.{Option, Option·getD, Option·map, none, some}
+use mathlib.Core.Option.{Option, none, some}
 use lib.Dec.{eqb, leb, ltb}
 use lib.ListN.{length}
 use Rattle.rules.specs.State.{Aggregate, Event, Held, SideState, State, freePlace, inRecord, withAggregates, withFree}
@@ -65,10 +65,14 @@ unfoldable pub onDelayed : SideState → ℕ → ℕ → Bool
 onDelayed x sum u =
     not (anyWithin adjacentWindow u (waiting x)) && not (within baseWindow u (baseMoment sum (x .queues .base)))
 
+-- a sum that may not be formed, as a list: "a side without a base head forms none"
+abbrev pub someSum : Option ℕ → List ℕ
+someSum none = []
+someSum (some n) = n ∷ []
+
 -- the sum that the last two tests form: "not past an early return"
 abbrev pub testSums : SideState → ℕ → ℕ → List ℕ
-testSums x sum u =
-    if anyWithin adjacentWindow u (waiting x) then [] else Option·getD (Option·map (λ (t : ℕ). t ∷ []) (baseMoment sum (x .queues .base))) []
+testSums x sum u = if anyWithin adjacentWindow u (waiting x) then [] else someSum (baseMoment sum (x .queues .base))
 
 -- `push_aggregate_delay`: a delay of length len at a side's end, at the moment given, with network delay d. One record for each side's sum, the
 -- client's first; its moment is lowered by the length, to the moment given at the least

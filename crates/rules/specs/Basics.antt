@@ -1,7 +1,7 @@
 -- What the rules are written with: a choice between two values, a delay that may be absent, sides and kinds.
 use Prim.Native.Nat.{_-_, ℕ}
 use mathlib.Core.Bool.{Bool, _&&_, _||_, false, true}
-use mathlib.Core.Option.{Option, none, some}
+use mathlib.Core.Option.{Option, none, some, Option·getD, Option·map}
 use mathlib.Core.List.{[], _∷_}
 use lib.Dec.{eqb, leb, ltb}
 use lib.ListN.{getD}
@@ -107,3 +107,7 @@ hasMachine BlockingBegin = true
 hasMachine BlockingEnd = false
 hasMachine TimerBegin = true
 hasMachine TimerEnd = true
+
+-- the kind of this number has a machine; a number above 9 is no kind
+unfoldable pub hasMachineNo : ℕ → Bool
+hasMachineNo n = Option·getD (Option·map hasMachine (kindOf n)) false

@@ -7,7 +7,7 @@ use lib.ListN.{set}
 use Rattle.rules.specs.State.{Action, Aggregate, Event, Fixed, State, reserved, roundsLeft, side, used, withActions, withBlock, withRounds, withSide, withSum, withTimers, Held}
 use Rattle.rules.specs.Choice.{Called, choose, event, nothing-left, refused, rounds, Answer}
 use Rattle.rules.specs.Arguments.{Call, EventIn, sim-network-stack, set-action}
-use Rattle.rules.specs.Basics.{Kind, Side, client, server}
+use Rattle.rules.specs.Basics.{Kind, Side, client, server, hasMachineNo}
 use Rattle.rules.specs.Aggregates.{addAggregate, addAggregates, aggregatesOf, onDelayed, onExpire, onReplace}
 use Rattle.rules.specs.ChoiceRound.{alwaysSums, candidate, clearAction, clearBlock, clearTimer, doAction, fits, liftEvent, round, roundSums, takeAggregate, takeEvent}
 use Rattle.rules.specs.Calls.{call, work}
@@ -22,7 +22,7 @@ use Rattle.rules.specs.CallLists.{afterAll, answers}
 
 -- what computes in a case: every rule
 unfoldable pub rules : Unit {0}
-unfolding choose rounds round candidate delays offered peekQueue queueHead sideHead headAs firstBy waitingHead passingHead earliestOfSide earliestBlocked alwaysSums roundSums fits roundsLeft used reserved putEvent pushEvent addAggregate addAggregates aggregatesOf onExpire onReplace onDelayed takeAggregate clearBlock liftEvent takeEvent clearTimer clearAction stamp doAction setTimer opened stepFor stepTunnel stepPadding replaceBy call work table refusal openRefusal outside
+unfolding hasMachineNo choose rounds round candidate delays offered peekQueue queueHead sideHead headAs firstBy waitingHead passingHead earliestOfSide earliestBlocked alwaysSums roundSums fits roundsLeft used reserved putEvent pushEvent addAggregate addAggregates aggregatesOf onExpire onReplace onDelayed takeAggregate clearBlock liftEvent takeEvent clearTimer clearAction stamp doAction setTimer opened stepFor stepTunnel stepPadding replaceBy call work table refusal openRefusal outside
 rules = tt
 
 -- ---- states

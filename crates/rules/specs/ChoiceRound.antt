@@ -9,7 +9,7 @@ use Rattle.rules.specs.State.{Action, ActionKind, Aggregate, BlockOutgoi
 use Rattle.rules.specs.ChoiceDelays.{Block, Delays, actionMoments, delays, nextBlock, offered}
 use Rattle.rules.specs.Basics.{BlockingBegin, BlockingEnd, Delay, PaddingSent, Side, TimerEnd, _≤ᵈ_, absent, after, client, if_then_else_, server}
 use Rattle.rules.specs.ChoiceHeads.{Head, isBase, waitingHead}
-use Rattle.rules.specs.Aggregates.{addAggregates, aggregatesOf, baseMoment, onExpire}
+use Rattle.rules.specs.Aggregates.{addAggregates, aggregatesOf, baseMoment, onExpire, someSum}
 use Rattle.rules.specs.Limits.{momentLimit}
 use Rattle.rules.specs.Queueing.{pushEvent}
 
@@ -239,10 +239,6 @@ candidateSums s now (anEvent h) = []
 candidateSums s now (aTimer z t) = []
 candidateSums s now (anAction z a) = actionSums (a .kind) (side s (z .side)) a
 candidateSums s now none-left = []
-
-abbrev pub someSum : Option ℕ → List ℕ
-someSum none = []
-someSum (some n) = n ∷ []
 
 -- "Sums formed in every round: base head plus sum, both sides, while any event is queued; a side without a base head forms none"; and the round total
 unfoldable pub alwaysSums : State → List ℕ

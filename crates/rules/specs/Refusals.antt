@@ -3,14 +3,14 @@
 use Prim.Native.Nat.{_+_, ℕ}
 use mathlib.Core.Bool.{Bool, _&&_, _||_, false, not}
 use mathlib.Core.List.{List, [], _∷_}
-use mathlib.Core.Option.{Option, Option·getD, Option·map, none, some}
+use mathlib.Core.Option.{Option, none, some}
 use lib.Dec.{eqb, leb, ltb}
 use Rattle.rules.specs.Arguments.{ActionIn, Call, EventIn, actionKindOf, clear-action, clear-timer, keptDuration, pick-next, push, set-action, set-timer, sim-network-stack}
 use Rattle.rules.specs.State.{ActionKind, State, reserved, side, used}
 use Rattle.rules.specs.ChoiceRound.{Slot}
 use Rattle.rules.specs.Effects.{afterPush, afterSetAction, afterStep, setTimer}
 use Rattle.rules.specs.Limits.{delayLimit, durationLimit, momentLimit}
-use Rattle.rules.specs.Basics.{hasMachine, if_then_else_, isSome, kindOf}
+use Rattle.rules.specs.Basics.{if_then_else_, isSome, kindOf, hasMachineNo}
 
 -- the number of the first row that holds
 abbrev pub firstOf : List (ℕ × Bool) → Option ℕ
@@ -22,7 +22,7 @@ abbrev pub noMachine : State → Slot → Bool
 noMachine s z = leb (side s (z .side) .fixed .machines) (z .machine)
 
 abbrev pub eventNoMachine : State → EventIn → Bool
-eventNoMachine s r = Option·getD (Option·map hasMachine (kindOf (r .kind))) false && noMachine s (record { side = r .side; machine = r .machine })
+eventNoMachine s r = hasMachineNo (r .kind) && noMachine s (record { side = r .side; machine = r .machine })
 
 -- 7: "moment or length above its limit"; the duration that is ignored is none
 abbrev pub eventTooLarge : EventIn → Bool

@@ -75,7 +75,7 @@ refused-so w c a left h o = go (size-decided (length w))
   where
     go : (d : Dec (SizeOk (length w))) → (a ≡ refused (numberOfBad d) 0) × (left ≡ w)
     go (yes s) = o .bad s h
-    go (no d) = o .short d
+    go (no d) = o .wrong-length d
 
 pub same-refusal :
     (w : List ℕ) (c : Call) (a b : Answer) (left right : List ℕ) → (Accepted w → ⊥) → Outcome w c a left → Outcome w c b right → (a ≡ b) × (left ≡ right)

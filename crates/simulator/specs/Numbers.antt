@@ -4,13 +4,13 @@ use mathlib.Core.Path.{_≡_}
 use mathlib.Core.Bool.{Bool, false}
 use mathlib.Core.List.{List, [], _∷_}
 use mathlib.Core.Logic.{_⊎_}
-use mathlib.Core.Option.{Option, Option·getD}
+use mathlib.Core.Option.{Option, Option·getD, Option·map}
 use lib.Dec.{eqb, ltb}
 use lib.ListN.{length, getD}
 use Rattle.rules.specs.Basics.{if_then_else_}
-use Rattle.rules.specs.State.{State}
+use Rattle.rules.specs.State.{State, ActionKind}
 use Rattle.rules.specs.ChoiceRound.{Slot}
-use Rattle.rules.specs.Arguments.{Call, EventIn}
+use Rattle.rules.specs.Arguments.{Call, EventIn, actionKindOf, keptDuration}
 use Rattle.rules.specs.Refusals.{eventNoMachine, eventTooLarge, firstOf, noMachine, refusal}
 use Rattle.event.specs.HandedIn.{sideOf}
 use Rattle.layout.specs.Header.{reserved}
@@ -70,9 +70,9 @@ CallNumber h c n = (rs : List ℕ) → Good h rs → n ≡ numberOf (refusal (st
 abbrev pub noRoom : List ℕ → ℕ → ℕ → Bool
 noRoom h word size = if eqb word 0 then ltb (getD h 25 0) (reserved h + size) else false
 
--- the duration that is kept of an action of this kind
+-- the duration that is kept of an action of the kind of this number; a number that is no action's keeps none
 abbrev pub keptNo : ℕ → ℕ → ℕ
-keptNo kind duration = if eqb kind 2 then duration else 0
+keptNo kind duration = Option·getD (Option·map (λ (k : ActionKind). keptDuration k duration) (actionKindOf kind)) 0
 
 -- what the number 0 of an event's rows says
 pub record EventFree (s : State) (r : EventIn) : Type 0 where
