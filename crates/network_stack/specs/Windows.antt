@@ -5,7 +5,7 @@ use mathlib.Core.List.{List, [], _∷_}
 use lib.ListN.{length}
 use Rattle.rules.specs.Basics.{Side}
 use Rattle.rules.specs.State.{Held, side}
-use Rattle.rules.specs.NetworkStep.{evict, stamp}
+use Rattle.rules.specs.NetworkStep.{stampsKept, stamp}
 use Rattle.layout.specs.Layout.{stateOf}
 use Rattle.layout.specs.Shape.{Shaped}
 use Rattle.layout.specs.Changes.{putChain, stampsNo}
@@ -65,5 +65,5 @@ pub record MayCount (w : List ℕ) (z : Side) (v : WindowCount) (now gone : ℕ)
 pub record Counted (w left : List ℕ) (z : Side) (now : ℕ) (r : WindowCount) : Type 0 where
   pub window : r ≡ windowOf (side (stamp (stateOf w) z now) z .stamps)
   pub leaves : Leaves w (putChain left (stampsNo z) (r .first) (r .count)) (stamp (stateOf w) z now)
-  pub first : headIn left (stampsNo z) ≡ firstPlace (evict (stateOf w .settings .window) now (side (stateOf w) z .stamps))
-  pub count : countIn left (stampsNo z) ≡ length (evict (stateOf w .settings .window) now (side (stateOf w) z .stamps))
+  pub first : headIn left (stampsNo z) ≡ firstPlace (stampsKept (stateOf w .settings .window) now (side (stateOf w) z .stamps))
+  pub count : countIn left (stampsNo z) ≡ length (stampsKept (stateOf w .settings .window) now (side (stateOf w) z .stamps))

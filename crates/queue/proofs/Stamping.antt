@@ -94,12 +94,12 @@ stale-stamps (suc n) s z now e =
 
 -- the stamps that they leave
 pub stale-left : (n : ℕ) (s : State) (z : Side) (now : ℕ) → staleCount (s .settings .window) now (side s z .stamps) ≡ n
-    → side (dropStamps n s z) z .stamps ≡ evict (s .settings .window) now (side s z .stamps)
+    → side (dropStamps n s z) z .stamps ≡ stampsKept (s .settings .window) now (side s z .stamps)
 stale-left zero s z now e = evict-fresh (s .settings .window) now (side s z .stamps) (count-fresh (s .settings .window) now (side s z .stamps) e)
 stale-left (suc n) s z now e =
     let g = count-stale (s .settings .window) now (side s z .stamps) n e in
     stale-left n (dropStamp s z) z now ((λ d. staleCount (window-kept s z d) now (stamps-kept s z d)) ∙ g .1)
-    ∙ (λ d. evict (window-kept s z d) now (stamps-kept s z d)) ∙ evict-stale (s .settings .window) now (side s z .stamps) (g .0)
+    ∙ (λ d. stampsKept (window-kept s z d) now (stamps-kept s z d)) ∙ evict-stale (s .settings .window) now (side s z .stamps) (g .0)
 
 -- ---- a packet taken over: its record is given back and taken again, so that it keeps it
 
