@@ -62,7 +62,7 @@ module _ (h : List ℕ) (d : Due) (at : ℕ) (l : d .machine < 16) (e : at ≡ 9
   pub planned-some : (a : ScheduledAction) → (getD h at 0 ≡ 0 → ⊥) → a ≡ actionRead (getD h at 0) (getD h (at + 1) 0) (getD h (at + 2) 0)
       → (rs : List ℕ) → Picked h rs (Take (TheAction (record { client = d .client; machine = d .machine; action = a }))) (actionFromSlot (stateFrom h rs) (dueSlot d))
   unfolding nextOf NextStands candidateOf Stands
-  planned-some a ne ea rs = record { is = ap (orNone (anAction (dueSlot d))) held; stands = (l, sym held) }
+  planned-some a ne ea rs = record { is = ap (orNone (anAction (dueSlot d))) held; stands = (l, sym held, ap (λ (x : ScheduledAction). x .kind .0) ea ∙ ap (λ (i : ℕ). getD h i 0 % 4) e) }
     where
       held : some (actionValue a) ≡ actionIn (stateFrom h rs) (dueSlot d)
       held = ap (λ (x : ScheduledAction). some (actionValue x)) ea ∙ sym (read-some (getD h at 0) (getD h (at + 1) 0) (getD h (at + 2) 0) ne) ∙ held-is rs

@@ -1,12 +1,15 @@
 -- The code's candidate as the rules' own, and what is known of one that was found. Assumes nothing.
-use Prim.Native.Nat.{ℕ, _<_}
+use Prim.Native.Nat.{ℕ, _+_, _*_, _%_, _<_}
 use mathlib.Core.Path.{_≡_}
+use mathlib.Core.Bool.{Bool}
 use mathlib.Core.List.{List}
 use mathlib.Core.Option.{some}
 use Rattle.rules.specs.State.{Action, inRecord, side}
 use Rattle.rules.specs.ChoiceRound.{Slot, Candidate as RulesCandidate, anAggregate, aBlock, anEvent, aTimer, anAction, none-left, actionIn}
 use Rattle.event.specs.HandedIn.{sideOf, aggregateIn}
 use Rattle.event.specs.declared.ScheduledAction.{ScheduledAction}
+use Rattle.layout.specs.Header.{actionOf}
+use Rattle.layout.specs.Changes.{sideNo}
 use Rattle.layout.specs.Records.{headOf, countOf}
 use Rattle.layout.specs.Layout.{stateFrom, actionKindAt}
 use Rattle.queue.specs.Heads.{headFrom, HeadOk}
@@ -46,12 +49,17 @@ nextOf h Nothing = none-left
 
 -- ---- what is known of a candidate that was found in the words h and rs
 
+-- the number of the kind in a slot of a side: `actionValue` reads more than one number as `BlockOutgoing`
+abbrev pub slotKind : List ℕ → Bool → ℕ → ℕ
+slotKind h client machine = actionOf h (16 * sideNo (sideOf client) + machine) % 4
+
 unfoldable pub Stands : List ℕ → List ℕ → Candidate → Type 0
 Stands h rs (Aggregate a) = 0 < countOf h 11
 Stands h rs (Block k) = side (stateFrom h rs) (sideOf (k .client)) .blockEnd ≡ some (k .end .0)
 Stands h rs (Event x) = HeadOk h rs (x .event .client) x
 Stands h rs (Timer d) = d .machine < 16
-Stands h rs (TheAction p) = (p .machine < 16) × (actionIn (stateFrom h rs) (plannedSlot p) ≡ some (actionValue (p .action)))
+Stands h rs (TheAction p) =
+    (p .machine < 16) × (actionIn (stateFrom h rs) (plannedSlot p) ≡ some (actionValue (p .action))) × (p .action .kind .0 ≡ slotKind h (p .client) (p .machine))
 
 unfoldable pub NextStands : List ℕ → List ℕ → Next → Type 0
 NextStands h rs (Take c) = Stands h rs c

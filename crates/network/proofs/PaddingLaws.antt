@@ -1,6 +1,6 @@
 -- Laws of a step of `PaddingSent`: its plan as the code makes it, and the rules' step by that plan. Assumes nothing.
-use Prim.Native.Nat.{ℕ, zero, suc, _+_, _<_}
-use mathlib.Core.Path.{_≡_, refl, sym, ap, ap₂, _∙_}
+use Prim.Native.Nat.{ℕ, zero, suc, _+_, _<_, _≤_}
+use mathlib.Core.Path.{_≡_, refl, sym, ap, ap₂, _∙_, subst}
 use mathlib.Core.Bool.{Bool, true, false, _&&_}
 use mathlib.Core.List.{List}
 use mathlib.Core.Logic.{_⊎_, inl, inr}
@@ -34,7 +34,7 @@ use Rattle.network.specs.declared.padding.Replaced.{Replaced}
 use Rattle.network.specs.declared.padding.Padding.{Padding}
 use Rattle.network.specs.declared.padding.Padding.the-variants.{Own, Dropped, Replaces}
 use Rattle.network.specs.Due.{moments}
-use Rattle.network.specs.Plans.{paddedOf, PaddingPlan, own, dropped, takes, paddingOf, takesFrom, takenOver, planReplacing, paddingPlan, paddingSums, paddingRecords, paddingStep}
+use Rattle.network.specs.Plans.{paddedOf, PaddingPlan, own, dropped, takes, paddingOf, takesFrom, takenOver, planReplacing, paddingPlan, paddingSums, paddingRecords, paddingStep, PaddingAs, TakenAs}
 use Rattle.network.proofs.DueLaws.{fits-append}
 use Rattle.network.proofs.WaitLaws.{waits-in}
 
@@ -92,9 +92,9 @@ without-sum x n = refl
 
 pub replaced : (h rs : List ℕ) (c : Bool) (now sum : ℕ) (y : HeadFound) (m : Margins) (t : Tested) → m ≡ usualMargins → sum ≡ getD h (10 + sideNo (sideOf c)) 0
     → TestedAs t (replaceOver m sum (without (side (stateFrom h rs) (sideOf c)) (y .chain)) now (y .event .moment .0)) (sumsOver m sum (without (side (stateFrom h rs) (sideOf c)) (y .chain)) (y .event .moment .0))
-    → paddingOf (Replaces (record { head = y; by = t .by; base = t .base })) ≡ takenOver (side (stateFrom h rs) (sideOf c)) now y
+    → TakenAs (record { head = y; by = t .by; base = t .base }) (side (stateFrom h rs) (sideOf c)) now y
 unfolding paddingOf takenOver headFrom
-replaced h rs c now sum y m t em es et = ap₂ (takes (headFrom y)) found formed
+replaced h rs c now sum y m t em es et = record { is = ap₂ (takes (headFrom y)) found formed; head = refl }
   where
     x : SideState
     x = without (side (stateFrom h rs) (sideOf c)) (y .chain)
@@ -142,10 +142,22 @@ lifted-is s y n e = go (y .event .side) ∙ ap (popSide (side s (y .event .side)
     go client = refl
     go server = refl
 
+-- where no packet is taken over
+own-as : (p : PaddingPlan) → own ≡ p → PaddingAs Own p
+unfolding paddingOf
+own-as p e = record { is = e; number = λ x q. absurd (let z : _≡_ {A = ℕ} 0 1 = cc in omega arith) }
+
+dropped-as : (p : PaddingPlan) → dropped ≡ p → PaddingAs Dropped p
+unfolding paddingOf
+dropped-as p e = record { is = e; number = λ x q. absurd (let z : _≡_ {A = ℕ} 0 1 = cc in omega arith) }
+
+replaced-one : (v x : Replaced) → Replaces v ≡ Replaces x → v ≡ x
+replaced-one v x e = cc
+
 module _ (h rs : List ℕ) (e : SimEvent) (now : ℕ) where
-  pub plan-own : e .replace ≡ false → paddingOf Own ≡ paddingPlan (stateFrom h rs) now (paddedOf e)
-  unfolding paddingOf paddingPlan
-  plan-own r = sym (ap (λ t. if t then planReplacing (stateFrom h rs) now (paddedOf e) (waitingHead (sideHeld h rs (e .client) .blockBypassable) (sideHeld h rs (e .client))) else own) r)
+  pub plan-own : e .replace ≡ false → PaddingAs Own (paddingPlan (stateFrom h rs) now (paddedOf e))
+  unfolding paddingPlan
+  plan-own r = own-as _ (sym (ap (λ t. if t then planReplacing (stateFrom h rs) now (paddedOf e) (waitingHead (sideHeld h rs (e .client) .blockBypassable) (sideHeld h rs (e .client))) else own) r))
 
   module _ (r : e .replace ≡ true) (t : Bool) (et : (rs : List ℕ) → t ≡ side (stateFrom h rs) (sideOf (e .client)) .blockBypassable) (f : Found) (p : Peeked h rs (e .client) f (waitingHead t (sideHeld h rs (e .client)))) where
     plan-is : planReplacing (stateFrom h rs) now (paddedOf e) (foundOf f) ≡ paddingPlan (stateFrom h rs) now (paddedOf e)
@@ -154,9 +166,9 @@ module _ (h rs : List ℕ) (e : SimEvent) (now : ℕ) where
         ap (planReplacing (stateFrom h rs) now (paddedOf e)) (p .is ∙ ap (λ b. waitingHead b (sideHeld h rs (e .client))) (et rs))
         ∙ sym (ap (λ b. if b then planReplacing (stateFrom h rs) now (paddedOf e) (waitingHead (sideHeld h rs (e .client) .blockBypassable) (sideHeld h rs (e .client))) else own) r)
 
-    pub plan-none : f ≡ Nothing → paddingOf Own ≡ paddingPlan (stateFrom h rs) now (paddedOf e)
-    unfolding paddingOf foundOf
-    plan-none ef = sym (ap (λ x. planReplacing (stateFrom h rs) now (paddedOf e) (foundOf x)) ef) ∙ plan-is
+    pub plan-none : f ≡ Nothing → PaddingAs Own (paddingPlan (stateFrom h rs) now (paddedOf e))
+    unfolding foundOf
+    plan-none ef = own-as _ (sym (ap (λ x. planReplacing (stateFrom h rs) now (paddedOf e) (foundOf x)) ef) ∙ plan-is)
 
     module _ (y : HeadFound) (ef : f ≡ At y) where
       -- by the packet's padding flag and the event's bypass flag
@@ -167,17 +179,21 @@ module _ (h rs : List ℕ) (e : SimEvent) (now : ℕ) where
       unfolding ways foundOf headFrom
       ways-is = sym (ap (λ x. planReplacing (stateFrom h rs) now (paddedOf e) (foundOf x)) ef) ∙ plan-is
 
-      pub plan-padding : y .event .padding ≡ true → paddingOf Own ≡ paddingPlan (stateFrom h rs) now (paddedOf e)
-      unfolding ways paddingOf
-      plan-padding a = sym (ap (λ x. ways x (e .bypass)) a) ∙ ways-is
+      pub plan-padding : y .event .padding ≡ true → PaddingAs Own (paddingPlan (stateFrom h rs) now (paddedOf e))
+      unfolding ways
+      plan-padding a = own-as _ (sym (ap (λ x. ways x (e .bypass)) a) ∙ ways-is)
 
-      pub plan-dropped : y .event .padding ≡ false → e .bypass ≡ false → paddingOf Dropped ≡ paddingPlan (stateFrom h rs) now (paddedOf e)
-      unfolding ways paddingOf
-      plan-dropped a b = sym (ap₂ ways a b) ∙ ways-is
+      pub plan-dropped : y .event .padding ≡ false → e .bypass ≡ false → PaddingAs Dropped (paddingPlan (stateFrom h rs) now (paddedOf e))
+      unfolding ways
+      plan-dropped a b = dropped-as _ (sym (ap₂ ways a b) ∙ ways-is)
 
-      pub plan-taken : (v : Replaced) → y .event .padding ≡ false → e .bypass ≡ true → paddingOf (Replaces v) ≡ takenOver (side (stateFrom h rs) (sideOf (e .client))) now y → paddingOf (Replaces v) ≡ paddingPlan (stateFrom h rs) now (paddedOf e)
+      pub plan-taken : (v : Replaced) → y .event .padding ≡ false → e .bypass ≡ true → TakenAs v (side (stateFrom h rs) (sideOf (e .client))) now y → PaddingAs (Replaces v) (paddingPlan (stateFrom h rs) now (paddedOf e))
       unfolding ways takenOver headFrom
-      plan-taken v a b ev = ev ∙ ap (λ x. takesFrom x now (headFrom y)) side-is ∙ sym (ap₂ ways a b) ∙ ways-is
+      plan-taken v a b tv =
+          record {
+            is = tv .is ∙ ap (λ x. takesFrom x now (headFrom y)) side-is ∙ sym (ap₂ ways a b) ∙ ways-is;
+            number = λ x q. subst (λ (z : HeadFound). z .event .kind .0 ≤ 9) (sym (tv .head) ∙ ap (λ (z : Replaced). z .head) (replaced-one v x q)) (stands h rs (e .client) t f y ef p .kind);
+          }
         where
           side-is : without (side (stateFrom h rs) (sideOf (e .client))) (y .chain) ≡ side (liftEvent (stateFrom h rs) (headFrom y)) (sideOf (y .event .client))
           side-is =

@@ -25,6 +25,7 @@ use Rattle.delay.specs.Tests.{delayedOf, baseOf, without}
 use Rattle.network.specs.declared.tunnel.Tunnel.{Tunnel}
 use Rattle.network.specs.declared.tunnel.Link.{Link}
 use Rattle.network.specs.declared.padding.Padding.{Padding}
+use Rattle.network.specs.declared.padding.Replaced.{Replaced}
 use Rattle.network.specs.declared.padding.Padding.the-variants.{Own, Dropped, Replaces}
 use Rattle.network.specs.Due.{moments}
 use Rattle.network.specs.Stamps.{limitOf, Above, evictedCount}
@@ -133,6 +134,16 @@ takesFrom x now h = takes h (onReplace x now (h .event .moment)) (testSums x (x 
 -- the same of the code's head, by the side that it stands at
 unfoldable pub takenOver : SideState → ℕ → HeadFound → PaddingPlan
 takenOver x now h = takesFrom (without x (h .chain)) now (headFrom h)
+
+-- what was found for the packet h that is taken over, and h as it was read, the number of its kind included
+pub record TakenAs (r : Replaced) (x : SideState) (now : ℕ) (h : HeadFound) : Type 0 where
+  pub is : paddingOf (Replaces r) ≡ takenOver x now h
+  pub head : r .head ≡ h
+
+-- the plan p; the number of a packet that is taken over is a kind's
+pub record PaddingAs (r : Padding) (p : PaddingPlan) : Type 0 where
+  pub is : paddingOf r ≡ p
+  pub number : (x : Replaced) → r ≡ Replaces x → x .head .event .kind .0 ≤ 9
 
 -- as replacing and stepPadding go
 abbrev pub planReplacing : State → ℕ → Event → Option Head → PaddingPlan

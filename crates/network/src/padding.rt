@@ -10,7 +10,7 @@ ghost use Rattle.rules.specs.ChoiceRound.{fits};
 ghost use Rattle.event.specs.HandedIn.{sideOf};
 ghost use Rattle.layout.specs.Accepted.{Good};
 ghost use Rattle.layout.specs.Layout.{stateFrom};
-ghost use Rattle.network.specs.Plans.{paddedOf, paddingOf, paddingPlan, paddingSums, paddingRecords, takenOver};
+ghost use Rattle.network.specs.Plans.{paddedOf, paddingOf, paddingPlan, paddingSums, paddingRecords, PaddingAs, TakenAs};
 use crate::aggregate;
 use delay::Base;
 use delay::Delayed;
@@ -39,7 +39,7 @@ pub enum Padding {
 // The packet that waits is taken over.
 fn replacement(head: &[u64], rest: &[u64], h: Head, client: bool, time: Moment) -> Replaced
     requires { ⌜ length (now head) ≡ 256 ⌝ ∗ ⌜ Good (now head) (now rest) ⌝ ∗ ⌜ 1 < h .chain ⌝ ∗ ⌜ h .chain < 4 ⌝ }
-    ensures { λ r. ⌜ paddingOf (Padding.Replaces r) ≡ takenOver (side (stateFrom (now (head .entry)) (now (rest .entry))) (sideOf client)) (time .0) h ⌝ }
+    ensures { λ r. ⌜ TakenAs r (side (stateFrom (now (head .entry)) (now (rest .entry))) (sideOf client)) (time .0) h ⌝ }
 {
     let sum = header::of_side(head, header::SUM, client);
     let margins = delay::usual();
@@ -73,7 +73,7 @@ fn flag_of(head: &[u64], client: bool) -> bool
 // What the step is to do. No block is needed.
 pub fn plan(head: &[u64], rest: &[u64], e: SimEvent, time: Moment) -> Padding
     requires { ⌜ length (now head) ≡ 256 ⌝ ∗ ⌜ Good (now head) (now rest) ⌝ }
-    ensures { λ r. ⌜ paddingOf r ≡ paddingPlan (stateFrom (now (head .entry)) (now (rest .entry))) (time .0) (paddedOf e) ⌝ }
+    ensures { λ r. ⌜ PaddingAs r (paddingPlan (stateFrom (now (head .entry)) (now (rest .entry))) (time .0) (paddedOf e)) ⌝ }
 {
     if !e.replace {
         return Padding::Own;

@@ -14,7 +14,7 @@ use Rattle.event.specs.HandedIn.{eventIn, sideOf}
 use Rattle.event.specs.declared.SimEvent.{SimEvent}
 use Rattle.network.specs.declared.padding.Padding.{Padding}
 use Rattle.network.specs.declared.tunnel.Tunnel.{Tunnel}
-use Rattle.network.specs.Plans.{PaddingPlan, Sendable, dropped, own, paddedOf, paddingOf, paddingPlan, paddingStep, paddingSums, sentOf, takes, tunnelOf, tunnelPlan, tunnelSums}
+use Rattle.network.specs.Plans.{PaddingPlan, Sendable, dropped, own, paddedOf, paddingOf, paddingPlan, paddingStep, paddingSums, sentOf, takes, tunnelOf, tunnelPlan, tunnelSums, PaddingAs}
 use Rattle.layout.specs.Accepted.{Accepted, Good}
 use Rattle.layout.specs.Layout.{stateFrom, stateOf}
 use Rattle.network.proofs.PaddingLaws.{padding-step, padding-sums}
@@ -70,9 +70,9 @@ module _ (s : State) (now : ℕ) (e : SimEvent) where
   unfolding Planned
   plan-send t k p = record { kind = k; plan = p }
 
-  pub plan-pad : (p : Padding) → e .kind .0 ≡ 2 → paddingOf p ≡ paddingPlan s now (paddedOf e) → Planned s now e (Pad p)
+  pub plan-pad : (p : Padding) → e .kind .0 ≡ 2 → PaddingAs p (paddingPlan s now (paddedOf e)) → Planned s now e (Pad p)
   unfolding Planned
-  plan-pad p k q = record { kind = k; plan = q }
+  plan-pad p k q = record { kind = k; plan = q .is; number = q .number }
 
   pub plan-normal : (q : SimEvent) → e .kind .0 ≡ 1 → Packet q (packet TunnelSent (e .moment .0) (e .delay .0) (sideOf (e .client)) false false false) → Planned s now e (Queue q)
   unfolding Planned

@@ -27,6 +27,8 @@ use Rattle.queue.specs.Pushes.{Canonical}
 use Rattle.event.specs.Values.{eventValue}
 use Rattle.delay.specs.Tests.{delayedOf}
 use Rattle.network.specs.declared.padding.Padding.{Padding}
+use Rattle.network.specs.declared.padding.Padding.the-variants.{Replaces}
+use Rattle.network.specs.declared.padding.Replaced.{Replaced}
 use Rattle.network.specs.declared.tunnel.Tunnel.{Tunnel}
 use Rattle.network.specs.Plans.{paddedOf, paddingOf, paddingPlan, paddingRecords, paddingSums, sentOf, tunnelOf, tunnelPlan, tunnelSums}
 use Rattle.network_stack.specs.declared.plan.Plan.{Plan}
@@ -51,10 +53,11 @@ pub record Queues (s : State) (now : ℕ) (e : SimEvent) (q : SimEvent) : Type 0
   pub active : Bool
   pub step : afterOf s now e ≡ queueing s active (eventValue q)
 
--- it is that of a `PaddingSent`, with this plan
+-- it is that of a `PaddingSent`, with this plan; the number of a packet that is taken over is a kind's
 pub record Pads (s : State) (now : ℕ) (e : SimEvent) (p : Padding) : Type 0 where
   pub kind : e .kind .0 ≡ 2
   pub plan : paddingOf p ≡ paddingPlan s now (paddedOf e)
+  pub number : (x : Replaced) → p ≡ Replaces x → x .head .event .kind .0 ≤ 9
 
 -- it is that of a `TunnelSent`, with this plan
 pub record Sends (s : State) (now : ℕ) (e : SimEvent) (t : Tunnel) : Type 0 where
