@@ -48,6 +48,21 @@ impl Moment {
         Moment(self.0 - l.0)
     }
 
+    // Whether it is too early to be moved back so far.
+    pub fn too_early(self, l: Length) -> bool
+        ensures { λ r. ⌜ r ≡ ltb (self .0) (l .0) ⌝ }
+    {
+        self.0 < l.0
+    }
+
+    // The word of a moment that may be none: one more, since 0 is none.
+    pub fn stored(self) -> u64
+        requires { ⌜ self .0 + 1 < 2 ^ 64 ⌝ }
+        ensures { λ r. ⌜ r ≡ self .0 + 1 ⌝ }
+    {
+        self.0 + 1
+    }
+
     // The later of two moments.
     pub fn later(self, other: Moment) -> Moment
         ensures { λ r. ⌜ r .0 ≡ max (self .0) (other .0) ⌝ }
