@@ -5,15 +5,17 @@ ghost use Prim.Native.Nat.{ℕ, _<_, _≤_};
 ghost use lib.ListN.{length};
 ghost use Rattle.layout.specs.Decides.{Decides};
 ghost use Rattle.layout.specs.Header.{Limited, ActionOk, SlotEmpty, SlotOk, SlotsOk, held, reserved as reservedOf};
+use moment::Length;
+use moment::Moment;
 
-// 2^62 - 1, for moments, sums, the lengths of aggregates and the round total.
-pub const MOMENT: u64 = 4_611_686_018_427_387_903;
+// For moments, sums, the lengths of aggregates and the round total.
+pub const MOMENT: u64 = Moment::LIMIT;
 
 // A block end and a timer are held as their moment + 1.
 const MOMENT_AFTER: u64 = MOMENT + 1;
 
-// 10^12, for delays and durations.
-const DURATION: u64 = 1_000_000_000_000;
+// For delays and durations.
+const DURATION: u64 = Length::LIMIT;
 
 // For a rate, 0 where it is absent.
 const RATE: u64 = 4_294_967_295;

@@ -5,11 +5,12 @@ ghost use lib.ListN.{length};
 ghost use Rattle.layout.specs.Decides.{Decides};
 ghost use Rattle.layout.specs.Records.{KindOk, MachineBound, MachineOk, EventOk, AggregateOk, StampOk, RecordOk, Follows, Chain, ChainsOk, chainCount, countsTo, countOf};
 use crate::header::MOMENT;
+use moment::Length;
 use queue_event::tag;
 use queue_event::words;
 
-// 2 * 10^12, for the delay of an event.
-const DELAY: u64 = 2_000_000_000_000;
+// For the delay of an event.
+const DELAY: u64 = Length::DELAY_LIMIT;
 
 // The chains 0 to 11.
 const CHAINS: usize = 12;

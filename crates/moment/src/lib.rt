@@ -9,11 +9,14 @@ pub struct Moment(pub u64);
 pub struct Length(pub u64);
 
 impl Moment {
+    // 2^62 - 1, for moments, sums, the lengths of aggregates and the round total.
+    pub const LIMIT: u64 = 4_611_686_018_427_387_903;
+
     // The last moment that the state may hold.
     pub fn limit() -> Moment
         ensures { λ r. ⌜ r .0 ≡ momentLimit ⌝ }
     {
-        Moment(4_611_686_018_427_387_903)
+        Moment(Moment::LIMIT)
     }
 
     pub fn fits(self) -> bool
@@ -48,6 +51,21 @@ impl Moment {
         Moment(self.0 - l.0)
     }
 
+    // Whether it is too early to be moved back so far.
+    pub fn too_early(self, l: Length) -> bool
+        ensures { λ r. ⌜ r ≡ ltb (self .0) (l .0) ⌝ }
+    {
+        self.0 < l.0
+    }
+
+    // The word of a moment that may be none: one more, since 0 is none.
+    pub fn stored(self) -> u64
+        requires { ⌜ self .0 + 1 < 2 ^ 64 ⌝ }
+        ensures { λ r. ⌜ r ≡ self .0 + 1 ⌝ }
+    {
+        self.0 + 1
+    }
+
     // The later of two moments.
     pub fn later(self, other: Moment) -> Moment
         ensures { λ r. ⌜ r .0 ≡ max (self .0) (other .0) ⌝ }
@@ -73,25 +91,31 @@ impl Length {
 
     pub const ADJACENT_WINDOW: Length = Length(100_000_000);
 
+    // 10^12, for delays and durations.
+    pub const LIMIT: u64 = 1_000_000_000_000;
+
     // The longest network, window, action or reporting delay, and the longest duration.
     pub fn limit() -> Length
         ensures { λ r. ⌜ r .0 ≡ durationLimit ⌝ }
     {
-        Length(1_000_000_000_000)
+        Length(Length::LIMIT)
     }
+
+    // Of an action's and a reporting delay together.
+    pub const DELAY_LIMIT: u64 = 2 * Length::LIMIT;
 
     // The longest delay of an event: an action's and a reporting delay.
     pub fn delay_limit() -> Length
         ensures { λ r. ⌜ r .0 ≡ delayLimit ⌝ }
     {
-        Length(2_000_000_000_000)
+        Length(Length::DELAY_LIMIT)
     }
 
     // The greatest sum of a side and the greatest length of an aggregate.
     pub fn sum_limit() -> Length
         ensures { λ r. ⌜ r .0 ≡ momentLimit ⌝ }
     {
-        Length(4_611_686_018_427_387_903)
+        Length(Moment::LIMIT)
     }
 
     pub fn fits(self) -> bool

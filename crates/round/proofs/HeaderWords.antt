@@ -113,11 +113,12 @@ becomes-then w a b s t p q =
     record { shaped = q .shaped; state = q .state; size = q .size ∙ p .size; spare = then-spare w a b (p .spare) (q .spare) }
 
 module _ (w : List ℕ) (s : Shaped w) (z : Side) where
-  pub sum-raised : (at n : ℕ) → at ≡ 10 + sideNo z → Becomes w (set w at (getD w at 0 + n)) (raisedBy (stateOf w) z n)
-  sum-raised at n e =
-      subst (λ (i : ℕ). Becomes w (set w i (getD w i 0 + n)) (raisedBy (stateOf w) z n)) (sym e)
+  pub sum-raised : (at n v : ℕ) → at ≡ 10 + sideNo z → v ≡ getD w at 0 + n → Becomes w (set w at v) (raisedBy (stateOf w) z n)
+  sum-raised at n v e ev =
+      subst (λ (i : ℕ). Becomes w (set w at i) (raisedBy (stateOf w) z n)) (sym ev)
+      (subst (λ (i : ℕ). Becomes w (set w i (getD w i 0 + n)) (raisedBy (stateOf w) z n)) (sym e)
       (low-becomes w (10 + sideNo z) (getD w (10 + sideNo z) 0 + n) _ (omega (arith, side-low z)) (sum-shaped w s _ z)
-      (sum-stored w s _ z ∙ ap (λ (x : ℕ). withSide (stateOf w) z (withSum (side (stateOf w) z) (x + n))) (sum-word w z)))
+      (sum-stored w s _ z ∙ ap (λ (x : ℕ). withSide (stateOf w) z (withSum (side (stateOf w) z) (x + n))) (sum-word w z))))
 
   pub sum-fits : (at n : ℕ) → at ≡ 10 + sideNo z → side (stateOf w) z .sum + n < 2 ^ 64 → getD w at 0 + n < 2 ^ 64
   sum-fits at n e l = rw e (omega (arith, sum-word w z))
@@ -128,11 +129,12 @@ module _ (w : List ℕ) (s : Shaped w) (z : Side) where
       (low-becomes w (12 + sideNo z) 0 _ (omega (arith, side-low z)) (block-shaped w s 0 z) (block-stored w s 0 z))
 
   -- a block's end, then its flag
-  pub block-set : (at flagged end v : ℕ) (b : Bool) → at ≡ 12 + sideNo z → flagged ≡ 14 + sideNo z → v ≡ bitOf b → Becomes w (set (set w at (end + 1)) flagged v) (blockedTo (stateOf w) z end b)
-  block-set at flagged end v b e f g =
-      subst (λ (i : ℕ). Becomes w (set (set w i (end + 1)) flagged v) (blockedTo (stateOf w) z end b)) (sym e)
+  pub block-set : (at flagged end u v : ℕ) (b : Bool) → at ≡ 12 + sideNo z → flagged ≡ 14 + sideNo z → u ≡ end + 1 → v ≡ bitOf b → Becomes w (set (set w at u) flagged v) (blockedTo (stateOf w) z end b)
+  block-set at flagged end u v b e f eu g =
+      subst (λ (i : ℕ). Becomes w (set (set w at i) flagged v) (blockedTo (stateOf w) z end b)) (sym eu)
+      (subst (λ (i : ℕ). Becomes w (set (set w i (end + 1)) flagged v) (blockedTo (stateOf w) z end b)) (sym e)
       (subst (λ (i : ℕ). Becomes w (set (set w (12 + sideNo z) (end + 1)) i v) (blockedTo (stateOf w) z end b)) (sym f)
-      (becomes-then w w₁ (set w₁ (14 + sideNo z) v) _ _ one (low-becomes w₁ (14 + sideNo z) v _ (omega (arith, side-low z)) (flag-shaped w₁ (one .shaped) v z small) two)))
+      (becomes-then w w₁ (set w₁ (14 + sideNo z) v) _ _ one (low-becomes w₁ (14 + sideNo z) v _ (omega (arith, side-low z)) (flag-shaped w₁ (one .shaped) v z small) two))))
     where
       w₁ : List ℕ
       w₁ = set w (12 + sideNo z) (end + 1)

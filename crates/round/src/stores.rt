@@ -19,7 +19,8 @@ pub fn raise_sum(block: &mut [u64], client: bool, length: Length)
     ensures { λ _. ⌜ Becomes (now (block .entry)) (now (block .exit)) (raisedBy (stateOf (now (block .entry))) (sideOf client) (length .0)) ⌝ }
 {
     let at = header::place(header::SUM, client);
-    block[at] = block[at] + length.0;
+    let sum = Length(block[at]).plus(length);
+    block[at] = sum.0;
 }
 
 // A side's block is cleared; its bypassable flag stays.
@@ -47,7 +48,7 @@ pub fn set_block(block: &mut [u64], client: bool, end: Moment, bypass: bool)
 {
     let until = header::place(header::BLOCK, client);
     let flag = header::place(header::BYPASSABLE, client);
-    block[until] = end.0 + 1;
+    block[until] = end.stored();
     block[flag] = bit(bypass);
 }
 

@@ -1,6 +1,6 @@
 -- The promise of setting and clearing a timer, from the number 0 and the words stored. Assumes nothing.
-use Prim.Native.Nat.{ℕ, suc, _+_, _*_, _≤_, _<_}
-use mathlib.Core.Path.{_≡_, refl, sym, subst}
+use Prim.Native.Nat.{ℕ, suc, _+_, _*_, _^_, _≤_, _<_}
+use mathlib.Core.Path.{_≡_, refl, sym, subst, _∙_}
 use mathlib.Core.Bool.{Bool, true, false}
 use mathlib.Core.List.{List}
 use mathlib.Core.Logic.{inl, inr}
@@ -9,8 +9,6 @@ use native.Mathlib.Numerals.{add-one}
 use lib.ListN.{length, getD, set, take, drop, length-set}
 use lib.Seq.{getD-set-other}
 use borrow.Author.Tests.{ltb-false}
-use mir.Val.{Fits}
-use mir.Syntax.{w64}
 use Rattle.rules.specs.Limits.{momentLimit}
 use Rattle.rules.specs.ChoiceRound.{clearTimer}
 use Rattle.rules.specs.Choice.{done}
@@ -61,7 +59,7 @@ module _ (w : List ℕ) (c : Bool) (m t n : ℕ) (num : Numbered w (set-timer (s
   unfolding table
   timer-small = has-small w c m (passed-accepted w setting n num z) (timer-free .1 .0)
 
-  pub timer-fits : Fits w64 (t + 1)
+  pub timer-fits : t + 1 < 2 ^ 64
   unfolding table
   timer-fits = omega (arith, ltb-false momentLimit t (timer-free .1 .1 .0))
 
@@ -80,8 +78,8 @@ module _ (w : List ℕ) (c : Bool) (m t n : ℕ) (num : Numbered w (set-timer (s
         ten = λ now e q. absurd (let x : _≡_ {A = ℕ} 0 1 = cc in omega arith);
       }
 
-  pub timer-done : (j : ℕ) → (j ≡ 16 * sideNo (sideOf c) + m) × (j < 32) → Outcome w (set-timer (slotIn c m) t) done (set w (64 + j) (t + 1))
-  timer-done j ej = subst (Outcome w setting done) (sym (λ d. set w (64 + ej .0 d) (add-one t d))) (outcome-done w setting n num z done _ timer-does)
+  pub timer-done : (j u : ℕ) → (j ≡ 16 * sideNo (sideOf c) + m) × (j < 32) → u ≡ t + 1 → Outcome w (set-timer (slotIn c m) t) done (set w (64 + j) u)
+  timer-done j u ej eu = subst (Outcome w setting done) (sym (λ d. set w (64 + ej .0 d) ((eu ∙ add-one t) d))) (outcome-done w setting n num z done _ timer-does)
 
 -- ---- clearing a timer
 

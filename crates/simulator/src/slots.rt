@@ -152,7 +152,7 @@ pub fn set_timer(block: &mut [u64], client: bool, machine: u64, moment: Moment) 
         });
     }
     let j = slot(client, machine);
-    block[64 + j] = moment.0 + 1;
+    block[64 + j] = moment.stored();
     Answer::Done
 }
 

@@ -25,7 +25,7 @@ fn delay_above_moment(e: SimEvent) -> bool
     if e.padding {
         return false;
     }
-    e.moment.0 < e.delay.0
+    e.moment.too_early(e.delay)
 }
 
 // The number of a step from 5 to 8; 0 for none.

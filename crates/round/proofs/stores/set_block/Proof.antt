@@ -1,6 +1,5 @@
 -- `round::stores::set_block` meets its contract. Assumes nothing.
 use Rattle.round.proofs.HeaderWords.{block-set}
-use Rattle.event.specs.HandedIn.{sideOf}
 use lib.ListN.{length-set}
 use native.Mathlib.Omega.{arith}
 use borrow.Author.Needs.{needs}
@@ -13,8 +12,8 @@ place-requires c κs = search needs
 place-requires-2 : tie.Need-place-requires-2
 place-requires-2 c κs = search needs
 
-add-block : tie.Need-add-block
-add-block c = search needs
+stored-requires : tie.Need-stored-requires
+stored-requires c κs = search needs
 
 mul-block : tie.Need-mul-block
 mul-block c = search needs
@@ -35,7 +34,7 @@ same-length : tie.Need-same-length
 same-length c = search needs
 
 returns : tie.Need-returns
-returns c = block-set _ (c .before .before .before .before .before .pre .0) (sideOf (c .before .before .before .before .before .args .client)) _ _ _ _ _ (c .before .before .before .place .ensures .0) (c .before .before .place2 .ensures .0) (c .bit .ensures)
+returns c = search block-set
 
 pub set-block-spec : {M : Type 1} → statement M
 set-block-spec =
@@ -43,7 +42,7 @@ set-block-spec =
     (tie.spec
     place-requires
     place-requires-2
-    add-block
+    stored-requires
     mul-block
     slice-write-block
     bit-requires

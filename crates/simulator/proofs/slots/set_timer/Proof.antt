@@ -1,8 +1,8 @@
 -- `simulator::slots::set_timer` meets its contract. Assumes nothing.
-use native.Mathlib.Omega.{arith}
-use borrow.Author.Needs.{needs}
 use Rattle.simulator.proofs.Working.{outcome-n}
 use Rattle.simulator.proofs.SlotOutcomes.{timer-small, timer-fits, timer-long, timer-done}
+use native.Mathlib.Omega.{arith}
+use borrow.Author.Needs.{needs}
 use Rattle.simulator.proofs.slots.set_timer.Statement.{statement}
 use Rattle.simulator.proofs.slots.set_timer.Tie as tie
 
@@ -16,13 +16,13 @@ returns : tie.Need-returns
 returns c = search outcome-n
 
 slot-requires : tie.Need-slot-requires
-slot-requires c κs = timer-small (c .before .before .before .before .args .block .now) (c .before .before .before .before .args .client) (c .before .before .before .before .args .machine) (c .before .before .before .before .args .moment .0) _ (c .before .timer-refusal .ensures) (c .if1 .left)
+slot-requires c κs = search timer-small
+
+stored-requires : tie.Need-stored-requires
+stored-requires c κs = search timer-fits
 
 add-block : tie.Need-add-block
-add-block c = timer-fits (c .before .before .before .before .before .before .args .block .now) (c .before .before .before .before .before .before .args .client) (c .before .before .before .before .before .before .args .machine) (c .before .before .before .before .before .before .args .moment .0) _ (c .before .before .before .timer-refusal .ensures) (c .before .before .if1 .left)
-
-add-block-2 : tie.Need-add-block-2
-add-block-2 c = search needs
+add-block c = search needs
 
 mul-block : tie.Need-mul-block
 mul-block c = search needs
@@ -34,7 +34,7 @@ same-length-2 : tie.Need-same-length-2
 same-length-2 c = search needs
 
 returns-2 : tie.Need-returns-2
-returns-2 c = timer-done (c .before .before .before .before .before .before .args .block .now) (c .before .before .before .before .before .before .args .client) (c .before .before .before .before .before .before .args .machine) (c .before .before .before .before .before .before .args .moment .0) _ (c .before .before .before .timer-refusal .ensures) (c .before .before .if1 .left) _ (c .before .slot .ensures)
+returns-2 c = search timer-done
 
 pub set-timer-spec : {M : Type 1} → statement M
 set-timer-spec =
@@ -44,8 +44,8 @@ set-timer-spec =
     same-length
     returns
     slot-requires
+    stored-requires
     add-block
-    add-block-2
     mul-block
     slice-write-block
     same-length-2
