@@ -23,6 +23,7 @@ use Rattle.layout.specs.Records.{chainCount, headOf, countOf, machinesFo
 use Rattle.layout.specs.Accepted.{Good, Accepted}
 use Rattle.layout.specs.Layout.{unlessZero, actionFrom, placeOf, bank, chains, build, stateFrom, stateOf}
 use Rattle.layout.specs.Opened.{rateWord, headWord, openedWords}
+use Rattle.layout.proofs.ActionWords.{empty-canonical}
 use Rattle.layout.proofs.Banks.{by-points, chains-at, chains-past}
 use Rattle.layout.proofs.Order.{free-order}
 use Rattle.layout.proofs.TwoKept.{free-linked}
@@ -98,7 +99,7 @@ module _ (o : Opening) (n : ℕ) where
       let d : getD (openHead o n) (98 + 3 * j) 0 ≡ 0 = head-zero o n (98 + 3 * j) (omega arith) (omega arith) in
       record {
         timer = omega arith;
-        action = rw (a, m, d) (record { flags = omega arith; moments = omega arith; durations = omega arith; kind = λ e. omega arith; padding = λ e. refl; empty = λ e. (refl, refl) });
+        action = rw (a, m, d) (record { shape = empty-canonical; moments = omega arith; durations = omega arith });
         no-timer = λ e. t;
         no-action = λ e. a;
       }

@@ -130,7 +130,7 @@ module _ (h rs rs′ : List ℕ) (m l t r : ℕ) (wide : length h ≡ 256) (g : 
 
 fit-mark : (rs : List ℕ) (k c a : ℕ) (l : List Node) → Fit k c (record { at = a; rec = recAt rs a } ∷ l) → markOf (tagOf rs a) ≡ k
 unfolding Fit recAt
-fit-mark rs k c a l f = f .0 .chain
+fit-mark rs k c a l f = f .0 .shape .chain
 
 take-is : (s : State) (z : Side) (c : Chain) (h : Head) → h .event .side ≡ z → h .chain ≡ c → takeEvent s h ≡ withChain s z c (tail (queue (side s z .queues) c)) (h .place ∷ s .free)
 unfolding takeEvent liftEvent

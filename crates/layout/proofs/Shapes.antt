@@ -14,11 +14,11 @@ use Rattle.rules.specs.Limits.{momentLimit, durationLimit, rateLimit}
 use Rattle.laws.specs.Accepted.{Accepted as HeldAccepted, RateOk}
 use Rattle.laws.specs.Sound.{SideOk, EndOk, DurationOk, ActionOk as HeldAction, ChainOk as HeldChain}
 use Rattle.queue_event.specs.Chain.{Node}
-use Rattle.layout.specs.Header.{limits, Limited, ActionOk, SlotOk, SlotsOk, reserved, machinesOf, actionOf, actionMoment, actionDuration}
-use Rattle.layout.specs.Records.{headOf, countOf, RecordOk, Fit, ChainOk, ChainsOk, Ordered, machinesFor}
+use Rattle.layout.specs.Header.{limits, Limited, ActionShape, ActionOk, SlotOk, SlotsOk, reserved, machinesOf, actionOf, actionMoment, actionDuration}
+use Rattle.layout.specs.Records.{headOf, countOf, Fit, ChainOk, ChainsOk, Ordered, machinesFor}
 use Rattle.layout.specs.Accepted.{Good, Accepted, used, room}
 use Rattle.layout.specs.Layout.{bank, chains, lessOne, unlessZero, actionFrom, firsts, sideFrom, stateFrom, stateOf, heldEvent, placeOf}
-use Rattle.layout.specs.Shape.{ActionShape, SlotsShape, RecordShape, Shapes, Shape, Shaped}
+use Rattle.layout.specs.Shape.{SlotsShape, Shapes, Shape, Shaped}
 use Rattle.layout.proofs.Parts.{head-length}
 use Rattle.layout.proofs.Banks.{chains-at, bank-at}
 use Rattle.layout.proofs.ChainWords.{count-le}
@@ -27,22 +27,10 @@ use Rattle.layout.proofs.ShapeChains.{fit-free, fit-events, fit-stamps,
 
 -- ---- accepted words have the shape
 
-action-shape : (a m d : ℕ) → ActionOk a m d → ActionShape a m d
-action-shape a m d o = record { flags = o .flags; kind = o .kind; padding = o .padding; empty = o .empty }
-
-record-shape : (k c m l t : ℕ) → RecordOk k c m l t → RecordShape k l t
-record-shape k c m l t o =
-    record {
-      chain = o .chain;
-      event = λ a b. record { rest = o .event a b .rest; side = o .event a b .side; kind = o .event a b .kind; machine = o .event a b .machine .none };
-      stamp = λ a b. record { spans = o .stamp a b .spans; rest = o .stamp a b .rest };
-      aggregate = λ a. record { rest = o .aggregate a .rest; side = o .aggregate a .side };
-    }
-
 fit-shapes : (k c : ℕ) (l : List Node) → Fit k c l → Shapes k l
 unfolding Fit Shapes
 fit-shapes k c [] f = tt
-fit-shapes k c (x ∷ l) f = (record-shape k c _ _ _ (f .0), fit-shapes k c l (f .1))
+fit-shapes k c (x ∷ l) f = (f .0 .shape, fit-shapes k c l (f .1))
 
 module _ (h rs : List ℕ) (wide : length h ≡ 256) (g : Good h rs) where
   good-flags : (i : ℕ) → 14 ≤ i → i < 17 → getD h i 0 ≤ 1
@@ -58,7 +46,7 @@ module _ (h rs : List ℕ) (wide : length h ≡ 256) (g : Good h rs) where
       record {
         wide = wide;
         flags = good-flags;
-        slots = λ j l. action-shape _ _ _ (g .slots j l .action);
+        slots = λ j l. g .slots j l .action .shape;
         chains = λ k l. record { links = g .chains k l .links; records = fit-shapes k _ _ (g .chains k l .fit) };
         counts = g .counts;
       }
@@ -100,10 +88,10 @@ unfolding actionFrom
 action-fits zero m d c i s f =
     let e = s .empty refl in
     let p = s .padding (omega arith) in
-    (record { flags = s .flags; moments = omega arith; durations = omega arith; kind = s .kind; padding = s .padding; empty = s .empty }, λ l. refl)
+    (record { shape = s; moments = omega arith; durations = omega arith }, λ l. refl)
 action-fits (suc n) m d c i s f =
     let g = f _ refl in
-    (record { flags = s .flags; moments = g .0 .0; durations = duration-fits (eqb (suc n % 4) 1) d (g .0 .1); kind = s .kind; padding = s .padding; empty = s .empty }, λ l. absurd (omega arith))
+    (record { shape = s; moments = g .0 .0; durations = duration-fits (eqb (suc n % 4) 1) d (g .0 .1) }, λ l. absurd (omega arith))
 
 getD-firsts : {A : Type 0} (n : ℕ) (f : ℕ → A) (m : ℕ) (z : A) → m < n → getD (firsts n f) m z ≡ f m
 getD-firsts zero f m z l = absurd (omega arith)

@@ -8,7 +8,7 @@ use lib.ListN.{length}
 use Rattle.queue_event.specs.Words.{nextOf}
 use Rattle.queue_event.specs.Chain.{recAt, Node, nodes, Is, Chain as LinkedFrom}
 use Rattle.layout.specs.Header.{reserved}
-use Rattle.layout.specs.Records.{chainCount, headOf, countOf, machinesFor, Fit, Ordered, ChainOk, countsTo}
+use Rattle.layout.specs.Records.{chainCount, headOf, countOf, machinesFor, RecordShape, Fit, Ordered, ChainOk, countsTo}
 use Rattle.layout.specs.Accepted.{Good}
 use Rattle.layout.specs.Changes.{putChain, putTwo, TwoChains}
 use Rattle.layout.proofs.Order.{free-order}
@@ -33,7 +33,8 @@ pub free-linked : (rs : List ℕ) (c n a : ℕ) → LinkedFrom rs 0 n a → Fit 
 unfolding LinkedFrom Fit nodes recAt
 free-linked rs c zero a l = tt
 free-linked rs c (suc n) a l =
-    (record { chain = l .1; event = λ p. absurd (omega arith); stamp = λ p q. absurd (omega arith); aggregate = λ p. absurd (omega arith) }, free-linked rs c n (nextOf rs a) (l .2))
+    let s : RecordShape 0 _ _ = record { chain = l .1; event = λ p. absurd (omega arith); stamp = λ p q. absurd (omega arith); aggregate = λ p. absurd (omega arith) } in
+    (record { shape = s; event = λ p. absurd (omega arith); stamp = λ p q. absurd (omega arith); aggregate = λ p. absurd (omega arith) }, free-linked rs c n (nextOf rs a) (l .2))
 
 pub free-fit : (rs : List ℕ) (c n a : ℕ) (l : List Node) → Is 0 rs n a l → Fit 0 c l
 free-fit rs c n a l i = subst (Fit 0 c) (i .held) (free-linked rs c n a (i .chain))
