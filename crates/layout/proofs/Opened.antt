@@ -29,6 +29,7 @@ use Rattle.layout.proofs.Order.{free-order}
 use Rattle.layout.proofs.TwoKept.{free-linked}
 use Rattle.layout.proofs.FixedChains.{each-at}
 use Rattle.layout.proofs.Tables.{openHead, openRest, length-table, opened-length, opened-head, opened-rest, head-at, head-zero, next-at, next-end, tag-at}
+use Rattle.layout.proofs.Counts.{reserve-state}
 
 -- ---- the free chain
 
@@ -250,7 +251,7 @@ module _ (o : Opening) (n : ℕ) (fine : openRefusal n o ≡ none) where
         slots = slots-open o n;
         chains = chain-open;
         counts = sum-counts o n ∙ sym (room-is o n);
-        reserve = omega (arith, room-is o n, count-free o n, nothing-reserved o n);
+        reserve = reserve-state _ _ (sum-counts o n ∙ sym (room-is o n)) (omega (arith, room-is o n, count-free o n, nothing-reserved o n));
       }
 
   pub opened-words : Accepted (openedWords o n)

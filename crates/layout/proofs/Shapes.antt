@@ -9,20 +9,19 @@ use lib.Dec.{ltb, eqb}
 use lib.ListN.{length, getD, take, drop}
 use borrow.Author.Tests.{ltb-true, ltb-false}
 use Rattle.rules.specs.Basics.{if_then_else_, Side, client, server}
-use Rattle.rules.specs.State.{Action, Chain, SendPadding, BlockOutgoing, base, blocking, bypassable, internal, used as usedOf}
+use Rattle.rules.specs.State.{Action, Chain, SendPadding, BlockOutgoing, base, blocking, bypassable, internal, used, reserved}
 use Rattle.rules.specs.Limits.{momentLimit, durationLimit, rateLimit}
 use Rattle.laws.specs.Accepted.{Accepted as HeldAccepted, RateOk}
 use Rattle.laws.specs.Sound.{SideOk, EndOk, DurationOk, ActionOk as HeldAction, ChainOk as HeldChain}
 use Rattle.queue_event.specs.Chain.{Node}
-use Rattle.layout.specs.Header.{limits, Limited, ActionShape, ActionOk, SlotOk, SlotsOk, reserved, machinesOf, actionOf, actionMoment, actionDuration}
-use Rattle.layout.specs.Records.{headOf, countOf, Fit, ChainOk, ChainsOk, Ordered, machinesFor}
-use Rattle.layout.specs.Accepted.{Good, Accepted, used, room}
-use Rattle.layout.specs.Layout.{bank, chains, lessOne, unlessZero, actionFrom, firsts, sideFrom, stateFrom, stateOf, heldEvent, placeOf}
+use Rattle.layout.specs.Header.{limits, Limited, ActionShape, ActionOk, SlotOk, SlotsOk, machinesOf, actionOf, actionMoment, actionDuration}
+use Rattle.layout.specs.Records.{Fit, ChainOk, ChainsOk, Ordered, machinesFor}
+use Rattle.layout.specs.Accepted.{Good, Accepted, room}
+use Rattle.layout.specs.Layout.{bank, chains, lessOne, unlessZero, actionFrom, firsts, sideFrom, stateFrom, stateOf, heldEvent}
 use Rattle.layout.specs.Shape.{SlotsShape, Shapes, Shape, Shaped}
 use Rattle.layout.proofs.Parts.{head-length}
 use Rattle.layout.proofs.Banks.{chains-at, bank-at}
 use Rattle.layout.proofs.ChainWords.{count-le}
-use Rattle.layout.proofs.Counts.{length-map, length-nodes, reserved-is}
 use Rattle.layout.proofs.ShapeChains.{fit-free, fit-events, fit-stamps, fit-aggregates, order-none, order-events, order-aggregates, shapes-ranked}
 
 -- ---- accepted words have the shape
@@ -262,17 +261,9 @@ module _ (h rs : List ℕ) (s : Shape h rs) (a : HeldAccepted (stateFrom h rs)) 
         ),
       )
 
-  -- used and reserved, as the state counts them
-  free-count : length (map placeOf (chains h rs 0)) ≡ countOf h 0
-  free-count = length-map placeOf (chains h rs 0) ∙ ap length (chains-at h rs 0 (omega arith)) ∙ length-nodes rs (countOf h 0) (headOf h 0)
-
-  held-used : usedOf (stateFrom h rs) ≡ used h rs
+  held-room : used (stateFrom h rs) + reserved (stateFrom h rs) ≤ room rs
   unfolding stateFrom
-  held-used = omega (arith, a .whole, free-count)
-
-  held-room : used h rs + reserved h ≤ room rs
-  unfolding stateFrom
-  held-room = omega (arith, a .room, held-used, reserved-is h rs)
+  held-room = a .room
 
   pub shape-good : Good h rs
   shape-good = record { limits = held-limits; slots = held-slots; chains = held-chains; counts = s .counts; reserve = held-room }

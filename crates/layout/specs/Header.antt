@@ -75,7 +75,7 @@ pub record SlotOk (h : List ℕ) (j : ℕ) : Type 0 where
 abbrev pub SlotsOk : List ℕ → Type 0
 SlotsOk h = (j : ℕ) → j < 32 → SlotOk h j
 
--- ---- "Reserved = 3 for each side with a block set, 1 for each timer held, 4 for each action held."
+-- ---- "Reserved = 3 for each side with a block set, 1 for each timer held, 4 for each action held.", as the code reckons it. It is the state's (proofs/Counts)
 
 -- 1 for a word that is set
 abbrev pub held : ℕ → ℕ

@@ -157,6 +157,10 @@ unfoldable pub countsTo : List ℕ → ℕ → ℕ
 countsTo h zero = 0
 countsTo h (suc k) = countsTo h k + countOf h k
 
+-- "Used = records not free", as the code reckons it: R less the free count. It is the state's (proofs/Counts)
+abbrev pub used : List ℕ → List ℕ → ℕ
+used h rs = length rs / 4 - countOf h 0
+
 -- ---- the same as the test walks it: link by link
 
 -- the record `at` may stand in chain k after one of moment m and rank r
