@@ -10,10 +10,13 @@ empty-ok {h} {j} e = record { timer = omega (arith, e .timer); action = action; 
     action : ActionOk (actionOf h j) (actionMoment h j) (actionDuration h j)
     action =
         record {
-          flags = omega (arith, e .action);
+          shape =
+              record {
+                flags = omega (arith, e .action);
+                kind = omega (arith, e .action);
+                padding = λ _. e .duration;
+                empty = λ _. (e .action, e .moment);
+              };
           moments = omega (arith, e .moment);
           durations = omega (arith, e .duration);
-          kind = omega (arith, e .action);
-          padding = λ _. e .duration;
-          empty = λ _. (e .action, e .moment);
         }

@@ -8,10 +8,10 @@ use lib.ListN.{length, getD, set, take, drop, length-set}
 use lib.Seq.{getD-set-same, getD-set-other, take-set-lt, drop-set-lt}
 use Rattle.rules.specs.Basics.{Side, client, server}
 use Rattle.rules.specs.State.{side, withSide, withActions}
-use Rattle.layout.specs.Header.{actionOf, actionMoment, actionDuration}
+use Rattle.layout.specs.Header.{ActionShape, actionOf, actionMoment, actionDuration}
 use Rattle.layout.specs.Accepted.{SizeOk}
 use Rattle.layout.specs.Layout.{actionFrom, stateFrom, stateOf}
-use Rattle.layout.specs.Shape.{ActionShape, SlotsShape, Shape, Shaped}
+use Rattle.layout.specs.Shape.{SlotsShape, Shape, Shaped}
 use Rattle.layout.specs.Changes.{sideNo, putAction}
 use Rattle.layout.proofs.HeaderLaws.{action-law}
 use Rattle.layout.proofs.Stores.{linked-shape}

@@ -6,8 +6,8 @@ use mathlib.Core.Option.{none, some}
 use native.Mathlib.Omega.{arith}
 use Rattle.rules.specs.State.{ActionKind, SendPadding, BlockOutgoing}
 use Rattle.queue_event.specs.Tag.{bit}
+use Rattle.layout.specs.Header.{ActionShape}
 use Rattle.layout.specs.Layout.{actionFrom}
-use Rattle.layout.specs.Shape.{ActionShape}
 
 -- "kind 1 for `SendPadding` and 2 for `BlockOutgoing`"
 abbrev pub actionNo : ActionKind → ℕ

@@ -1,5 +1,5 @@
 -- The records used and reserved, of the state and of the words. Assumes nothing.
-use Prim.Native.Nat.{ℕ, zero, suc, _+_, _*_, _<_}
+use Prim.Native.Nat.{ℕ, zero, suc, _+_, _*_, _≤_, _<_}
 use mathlib.Core.Path.{_≡_, refl, sym, ap, ap₂, _∙_}
 use mathlib.Core.List.{List, [], _∷_, map}
 use mathlib.Core.Option.{Option, none, some}
@@ -10,8 +10,8 @@ use Rattle.rules.specs.Basics.{client, server}
 use Rattle.rules.specs.State.{one, used as usedOf, reserved as reservedOf, held as heldOf}
 use Rattle.queue_event.specs.Chain.{Node, nodes}
 use Rattle.layout.specs.Header.{timerOf, actionOf, held, slotsRoom, reserved}
-use Rattle.layout.specs.Records.{chainCount, countOf, headOf, countsTo}
-use Rattle.layout.specs.Accepted.{Good, used}
+use Rattle.layout.specs.Records.{chainCount, countOf, headOf, countsTo, used}
+use Rattle.layout.specs.Accepted.{Good, room}
 use Rattle.layout.specs.Layout.{heldEvent, heldStamp, heldAggregate, bank, chains, lessOne, actionFrom, firsts, timersFrom, actionsFrom, stateFrom}
 use Rattle.layout.proofs.Banks.{chains-at, bank-at}
 
@@ -29,11 +29,11 @@ length-nodes rs (suc n) h = ap suc (length-nodes rs n _)
 held-chain : {B : Type 0} (h rs : List ℕ) (k : ℕ) (f : Node → B) → k < chainCount → length (map f (chains h rs k)) ≡ countOf h k
 held-chain h rs k f l = length-map f (chains h rs k) ∙ ap length (chains-at h rs k l) ∙ length-nodes rs (countOf h k) (headOf h k)
 
-pub used-is : (h rs : List ℕ) → Good h rs → usedOf (stateFrom h rs) ≡ used h rs
+pub used-is : (h rs : List ℕ) → countsTo h chainCount ≡ room rs → usedOf (stateFrom h rs) ≡ used h rs
 unfolding usedOf stateFrom countsTo
-used-is h rs g =
+used-is h rs sum =
     omega
-    (arith, g .counts, held-chain h rs 1 (heldEvent client) (omega arith), held-chain h rs 2 (heldEvent client) (omega arith), held-chain h rs 3 (heldEvent client) (omega arith), held-chain h rs 4 (heldEvent client) (omega arith), held-chain h rs 5 heldStamp (omega arith), held-chain h rs 6 (heldEvent server) (omega arith), held-chain h rs 7 (heldEvent server) (omega arith), held-chain h rs 8 (heldEvent server) (omega arith), held-chain h rs 9 (heldEvent server) (omega arith), held-chain h rs 10 heldStamp (omega arith), held-chain h rs 11 heldAggregate (omega arith))
+    (arith, sum, held-chain h rs 1 (heldEvent client) (omega arith), held-chain h rs 2 (heldEvent client) (omega arith), held-chain h rs 3 (heldEvent client) (omega arith), held-chain h rs 4 (heldEvent client) (omega arith), held-chain h rs 5 heldStamp (omega arith), held-chain h rs 6 (heldEvent server) (omega arith), held-chain h rs 7 (heldEvent server) (omega arith), held-chain h rs 8 (heldEvent server) (omega arith), held-chain h rs 9 (heldEvent server) (omega arith), held-chain h rs 10 heldStamp (omega arith), held-chain h rs 11 heldAggregate (omega arith))
 
 -- ---- reserved
 
@@ -109,3 +109,11 @@ module _ (h : List ℕ) where
   reserved-is rs =
       (λ d. (3 * block-held 12 (lit< tt) d + timers-are 0 (lit< tt) d + 4 * actions-are 0 (lit< tt) d) + (3 * block-held 13 (lit< tt) d + timers-are 1 (lit< tt) d + 4 * actions-are 1 (lit< tt) d))
       ∙ arrange (held (getD h 12 0)) (held (getD h 13 0)) _ _ _ _ (slotsRoom h 32) _ _ slots-split (halves (λ j. held (timerOf h j))) (halves (λ j. held (actionOf h j)))
+
+-- ---- both
+
+pub reserve-state : (h rs : List ℕ) → countsTo h chainCount ≡ room rs → used h rs + reserved h ≤ room rs → usedOf (stateFrom h rs) + reservedOf (stateFrom h rs) ≤ room rs
+reserve-state h rs sum fits = omega (arith, used-is h rs sum, reserved-is h rs, fits)
+
+pub reserve-words : (h rs : List ℕ) → Good h rs → used h rs + reserved h ≤ room rs
+reserve-words h rs g = omega (arith, used-is h rs (g .counts), reserved-is h rs, g .reserve)

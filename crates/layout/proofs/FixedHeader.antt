@@ -63,7 +63,7 @@ module _ (h rs h′ rs′ : List ℕ) (g : Good h rs) (g′ : Good h′ rs′) (
   action-words : (slots : (j : ℕ) → j < 32 → SlotOk h j) (slots′ : (j : ℕ) → j < 32 → SlotOk h′ j) (j : ℕ) → j < 32
       → (getD h (96 + 3 * j) 0 ≡ getD h′ (96 + 3 * j) 0) × ((getD h (97 + 3 * j) 0 ≡ getD h′ (97 + 3 * j) 0) × (getD h (98 + 3 * j) 0 ≡ getD h′ (98 + 3 * j) 0))
   action-words slots slots′ j l =
-      action-same _ _ _ _ _ _ (slots j l .action) (slots′ j l .action) (sym (action-from h j l) ∙ slot-action (j / 16) (j % 16) (omega arith) (omega arith) ∙ action-from h′ j l)
+      action-same _ _ _ _ _ _ (slots j l .action .shape) (slots′ j l .action .shape) (sym (action-from h j l) ∙ slot-action (j / 16) (j % 16) (omega arith) (omega arith) ∙ action-from h′ j l)
 
   -- ---- every word of the header
 

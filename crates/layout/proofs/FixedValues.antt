@@ -9,7 +9,7 @@ use Rattle.queue_event.specs.Chain.{Node, Rec}
 use Rattle.rules.specs.Basics.{Side, rank}
 use Rattle.rules.specs.State.{SendPadding, BlockOutgoing, Action}
 use Rattle.queue_event.specs.Tag.{flag}
-use Rattle.layout.specs.Header.{ActionOk}
+use Rattle.layout.specs.Header.{ActionShape}
 use Rattle.layout.specs.Layout.{actionKindAt, lessOne, unlessZero, sideAt, eventFrom, aggregateFrom, heldEvent, heldStamp, heldAggregate, actionFrom}
 use Rattle.layout.specs.Records.{RecordOk, Fit}
 use Rattle.layout.proofs.Order.{rank-kind}
@@ -70,14 +70,14 @@ module _ (k c c′ : ℕ) (a b : Rec) where
   event-rec : (z : Side) → 0 < k % 5 → k < 11 → RecordOk k c (a .moment) (a .size) (a .tag) → RecordOk k c′ (b .moment) (b .size) (b .tag) → eventFrom z a ≡ eventFrom z b → a ≡ b
   unfolding eventFrom
   event-rec z lo hi fa fb e =
-      let ea = fa .event lo hi in
-      let eb = fb .event lo hi in
+      let ea = fa .shape .event lo hi in
+      let eb = fb .shape .event lo hi in
       let kd : a .tag / 16 % 16 ≡ b .tag / 16 % 16 = sym (rank-kind (a .tag / 16 % 16) (omega (arith, ea .kind .kinds))) ∙ ap (λ x. rank (x .kind)) e ∙ rank-kind (b .tag / 16 % 16) (omega (arith, eb .kind .kinds)) in
       let pd : a .tag / 256 % 2 ≡ b .tag / 256 % 2 = flag-same _ _ (omega arith) (omega arith) (ap (λ x. x .padding) e) in
       let bd : a .tag / 512 % 2 ≡ b .tag / 512 % 2 = flag-same _ _ (omega arith) (omega arith) (ap (λ x. x .bypass) e) in
       let rd : a .tag / 1024 % 2 ≡ b .tag / 1024 % 2 = flag-same _ _ (omega arith) (omega arith) (ap (λ x. x .replace) e) in
       let md : a .tag / 4096 % 16 ≡ b .tag / 4096 % 16 = ap (λ x. x .machine) e in
-      let tg : a .tag ≡ b .tag = digits (a .tag) (ea .rest) (ea .side) ∙ same _ _ _ _ _ _ _ _ _ _ _ _ kd pd bd rd md (fa .chain ∙ sym (fb .chain)) ∙ sym (digits (b .tag) (eb .rest) (eb .side)) in
+      let tg : a .tag ≡ b .tag = digits (a .tag) (ea .rest) (ea .side) ∙ same _ _ _ _ _ _ _ _ _ _ _ _ kd pd bd rd md (fa .shape .chain ∙ sym (fb .shape .chain)) ∙ sym (digits (b .tag) (eb .rest) (eb .side)) in
       λ d. record { moment = ap (λ x. x .moment) e d; size = ap (λ x. x .delay) e d; tag = tg d }
     where
       same : (k₁ k₂ p₁ p₂ b₁ b₂ r₁ r₂ m₁ m₂ c₁ c₂ : ℕ) → k₁ ≡ k₂ → p₁ ≡ p₂ → b₁ ≡ b₂ → r₁ ≡ r₂ → m₁ ≡ m₂ → c₁ ≡ c₂ → c₁ + 16 * k₁ + 256 * p₁ + 512 * b₁ + 1024 * r₁ + 4096 * m₁ ≡ c₂ + 16 * k₂ + 256 * p₂ + 512 * b₂ + 1024 * r₂ + 4096 * m₂
@@ -85,17 +85,17 @@ module _ (k c c′ : ℕ) (a b : Rec) where
 
   stamp-rec : k % 5 ≡ 0 → 0 < k → RecordOk k c (a .moment) (a .size) (a .tag) → RecordOk k c′ (b .moment) (b .size) (b .tag) → a .moment ≡ b .moment → a ≡ b
   stamp-rec lo hi fa fb e =
-      let sa = fa .stamp lo hi in
-      let sb = fb .stamp lo hi in
-      let tg : a .tag ≡ b .tag = omega (arith, sa .rest, sb .rest, fa .chain, fb .chain) in
+      let sa = fa .shape .stamp lo hi in
+      let sb = fb .shape .stamp lo hi in
+      let tg : a .tag ≡ b .tag = omega (arith, sa .rest, sb .rest, fa .shape .chain, fb .shape .chain) in
       let sz : a .size ≡ b .size = sa .spans ∙ sym (sb .spans) in
       λ d. record { moment = e d; size = sz d; tag = tg d }
 
   aggregate-rec : k ≡ 11 → RecordOk k c (a .moment) (a .size) (a .tag) → RecordOk k c′ (b .moment) (b .size) (b .tag) → aggregateFrom a ≡ aggregateFrom b → a ≡ b
   unfolding aggregateFrom
   aggregate-rec is fa fb e =
-      let ga = fa .aggregate is in
-      let gb = fb .aggregate is in
+      let ga = fa .shape .aggregate is in
+      let gb = fb .shape .aggregate is in
       let sd : a .tag / 2048 % 2 ≡ b .tag / 2048 % 2 = side-same _ _ (omega arith) (omega arith) (ap (λ x. x .side) e) in
       let tg : a .tag ≡ b .tag = omega (arith, ga .rest, gb .rest, ga .side, gb .side) in
       λ d. record { moment = ap (λ x. x .moment) e d; size = ap (λ x. x .length) e d; tag = tg d }
@@ -108,7 +108,7 @@ kind-three a b (inr x) (inr y) e = x ∙ sym y
 kind-three a b (inl x) (inr y) e = absurd (let q : SendPadding ≡ BlockOutgoing = sym (ap actionKindAt x) ∙ e ∙ ap actionKindAt y in let z : _≡_ {A = ℕ} 0 1 = cc in omega arith)
 kind-three a b (inr x) (inl y) e = absurd (let q : BlockOutgoing ≡ SendPadding = sym (ap actionKindAt x) ∙ e ∙ ap actionKindAt y in let z : _≡_ {A = ℕ} 0 1 = cc in omega arith)
 
-pub one-or-two : (a m d : ℕ) → ActionOk (suc a) m d → (suc a % 4 ≡ 1) ⊎ (suc a % 4 ≡ 2)
+pub one-or-two : (a m d : ℕ) → ActionShape (suc a) m d → (suc a % 4 ≡ 1) ⊎ (suc a % 4 ≡ 2)
 one-or-two a m d ok = go (suc a % 4) (ok .kind) (λ e. let z = ok .empty e .0 in omega arith) (omega arith)
   where
     go : (x : ℕ) → (x ≡ 3 → ⊥) → (x ≡ 0 → ⊥) → x < 4 → (x ≡ 1) ⊎ (x ≡ 2)
@@ -121,7 +121,7 @@ one-or-two a m d ok = go (suc a % 4) (ok .kind) (λ e. let z = ok .empty e .0 in
 action-digits : (a : ℕ) → a ≤ 15 → a ≡ a % 4 + 4 * (a / 4 % 2) + 8 * (a / 8 % 2)
 action-digits a l = omega arith
 
-pub action-same : (a m d a′ m′ d′ : ℕ) → ActionOk a m d → ActionOk a′ m′ d′ → actionFrom a m d ≡ actionFrom a′ m′ d′ → (a ≡ a′) × ((m ≡ m′) × (d ≡ d′))
+pub action-same : (a m d a′ m′ d′ : ℕ) → ActionShape a m d → ActionShape a′ m′ d′ → actionFrom a m d ≡ actionFrom a′ m′ d′ → (a ≡ a′) × ((m ≡ m′) × (d ≡ d′))
 unfolding actionFrom
 action-same zero m d zero m′ d′ o o′ e = (refl, (o .empty refl .1 ∙ sym (o′ .empty refl .1), o .padding (omega arith) ∙ sym (o′ .padding (omega arith))))
 action-same zero m d (suc a′) m′ d′ o o′ e = absurd (let z : _≡_ {A = ℕ} 0 1 = cc in omega arith)

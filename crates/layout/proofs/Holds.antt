@@ -14,7 +14,7 @@ use Rattle.layout.specs.Header.{limits}
 use Rattle.layout.specs.Records.{chainCount, headOf, countOf}
 use Rattle.layout.specs.Accepted.{Good, Accepted, room}
 use Rattle.layout.specs.Layout.{bank, chains, stateFrom, stateOf}
-use Rattle.layout.proofs.Counts.{used-is, reserved-is, length-map, length-nodes}
+use Rattle.layout.proofs.Counts.{used-is, length-map, length-nodes}
 use Rattle.layout.proofs.ChainWords.{count-le}
 use Rattle.layout.proofs.HoldsChains.{chain-fits, stamps-fit, aggregates-fit, aggregates-order}
 use Rattle.layout.proofs.HoldsSlots.{rate-fits, end-fits, timers-fit, actions-fit}
@@ -101,14 +101,14 @@ module _ (h rs : List ℕ) (g : Good h rs) where
   free-length = length-map _ (nodes rs (countOf h 0) (headOf h 0)) ∙ length-nodes rs (countOf h 0) (headOf h 0)
 
   whole-from : Whole (stateFrom h rs)
-  whole-from = omega (arith, used-is h rs g, free-length, room-from, count-le h 0 chainCount (omega arith), g .counts)
+  whole-from = omega (arith, used-is h rs (g .counts), free-length, room-from, count-le h 0 chainCount (omega arith), g .counts)
 
   pub good-state : 1 ≤ room rs → room rs ≤ 65_535 → AcceptedState (stateFrom h rs)
   good-state least most =
       record {
         sound = sound-from;
         settings = settings-from;
-        room = omega (arith, used-is h rs g, reserved-is h rs, room-from, g .reserve);
+        room = omega (arith, room-from, g .reserve);
         some-room = rw room-from least;
         size = rw room-from most;
         total = total-from;

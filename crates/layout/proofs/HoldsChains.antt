@@ -15,7 +15,7 @@ use Rattle.laws.specs.Order.{inOrder, eventBefore, aggregateBefore}
 use Rattle.laws.specs.Sound.{MachineOk as MachineFits, EventOk as EventFits, ChainOk as ChainFits, AggregateOk as AggregateFits}
 use Rattle.queue_event.specs.Chain.{rankOf, Rec, Node}
 use Rattle.queue_event.specs.Tag.{flag, kindField, bypassField}
-use Rattle.layout.specs.Records.{KindOk, MachineOk, RecordOk, Follows, Fit, Ordered}
+use Rattle.layout.specs.Records.{MachineBelow, NoMachine, KindOk, RecordOk, Follows, Fit, Ordered}
 use Rattle.layout.specs.Layout.{eventFrom, aggregateFrom, heldEvent, heldStamp, heldAggregate}
 use Rattle.layout.proofs.Order.{chain-kind, machine-kind, rank-kind, Ranked, fit-ranked}
 
@@ -34,26 +34,27 @@ chain-from blocking n f k = rw (k .waiting (omega arith) (omega arith), k .bypas
 chain-from bypassable n f k = rw (k .waiting (omega arith) (omega arith), k .bypass (omega arith) (omega arith))
 chain-from internal n f k = let l = k .internal (omega arith) in rw (ne-eqb n 0 (λ e. omega arith), ne-eqb n 1 (λ e. omega arith))
 
-machine-from : (n c m : ℕ) → MachineOk n c m → MachineFits (eqb n 2 || eqb n 6 || ltb 7 n) c m
-machine-from n c m k = go (eqb n 2) refl (eqb n 6) refl (ltb 7 n) refl
+machine-from : (n c m : ℕ) → MachineBelow n c m → NoMachine n m → MachineFits (eqb n 2 || eqb n 6 || ltb 7 n) c m
+machine-from n c m k none = go (eqb n 2) refl (eqb n 6) refl (ltb 7 n) refl
   where
     go : (x : Bool) → eqb n 2 ≡ x → (y : Bool) → eqb n 6 ≡ y → (z : Bool) → ltb 7 n ≡ z → MachineFits (x || y || z) c m
     go true p y q z u = k .padding (eqb-true n 2 p)
     go false p true q z u = k .blocking (eqb-true n 6 q)
     go false p false q true u = k .timer (ltb-true 7 n u)
-    go false p false q false u = k .none (eqb-false n 2 p) (eqb-false n 6 q) (ltb-false 7 n u)
+    go false p false q false u = none (eqb-false n 2 p) (eqb-false n 6 q) (ltb-false 7 n u)
 
 event-fits : (z : Side) (c : Chain) (k n : ℕ) (x : Rec) → placeNo c ≡ k % 5 → 0 < k % 5 → k < 11 → RecordOk k n (x .moment) (x .size) (x .tag) → EventFits n z c (eventFrom z x)
 unfolding eventFrom
 event-fits z c k n x e lo hi r =
+    let f = r .shape .event lo hi in
     let o = r .event lo hi in
-    let kd : KindOk (placeNo c) (kindField (x .tag)) (bypassField (x .tag)) = subst (λ p. KindOk p (kindField (x .tag)) (bypassField (x .tag))) (sym e) (o .kind) in
+    let kd : KindOk (placeNo c) (kindField (x .tag)) (bypassField (x .tag)) = subst (λ p. KindOk p (kindField (x .tag)) (bypassField (x .tag))) (sym e) (f .kind) in
     record {
       of-side = refl;
       of-chain = chain-kind (flag (bypassField (x .tag))) (kindField (x .tag)) (omega (arith, kd .kinds)) ∙ chain-from c (kindField (x .tag)) (bypassField (x .tag)) kd;
       moment = o .moments;
       delay = o .spans;
-      machine = rw (machine-kind (kindField (x .tag)) (omega (arith, kd .kinds))) (machine-from (kindField (x .tag)) n _ (o .machine));
+      machine = rw (machine-kind (kindField (x .tag)) (omega (arith, kd .kinds))) (machine-from (kindField (x .tag)) n _ (o .machine) (f .machine));
     }
 
 events-fit : (z : Side) (c : Chain) (k n : ℕ) (l : List Node) → placeNo c ≡ k % 5 → 0 < k % 5 → k < 11 → Fit k n l → All (λ (e : Held Event). EventFits n z c (e .value)) (map (heldEvent z) l)
@@ -102,7 +103,7 @@ chain-fits z c k n l e lo hi f o = record { events = events-fit z c k n l e lo h
 pub stamps-fit : (k n : ℕ) (l : List Node) → k % 5 ≡ 0 → 0 < k → Fit k n l → All (λ (t : Held ℕ). t .value ≤ momentLimit) (map heldStamp l)
 unfolding Fit
 stamps-fit k n [] lo hi f = tt
-stamps-fit k n (x ∷ l) lo hi f = (f .0 .stamp lo hi .moments, stamps-fit k n l lo hi (f .1))
+stamps-fit k n (x ∷ l) lo hi f = (f .0 .stamp lo hi, stamps-fit k n l lo hi (f .1))
 
 pub aggregates-fit : (n : ℕ) (l : List Node) → Fit 11 n l → All (λ (a : Held Aggregate). AggregateFits (a .value)) (map heldAggregate l)
 unfolding Fit aggregateFrom

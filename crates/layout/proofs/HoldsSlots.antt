@@ -56,7 +56,7 @@ unfolding actionFrom
 action-some zero m d a o e = absurd (let z : _≡_ {A = ℕ} 0 1 = cc in omega arith)
 action-some (suc n) m d a o e =
     let q : _≡_ {A = Action} (record { kind = actionKindAt (suc n % 4); moment = m; duration = d; bypass = flag (suc n / 4 % 2); replace = flag (suc n / 8 % 2) }) a = cc in
-    (subst ActionFits q (o .moments, duration-fits (suc n % 4) d (one-or-two n m d o) (o .padding) (o .durations)), λ z. omega arith)
+    (subst ActionFits q (o .moments, duration-fits (suc n % 4) d (one-or-two n m d (o .shape)) (o .shape .padding) (o .durations)), λ z. omega arith)
 
 module _ (h : List ℕ) (ok : SlotsOk h) (n : ℕ) (small : n < 2) where
   there : (m : ℕ) → m < 16 → (machinesOf h n ≤ m → ⊥) → m < machinesOf h n

@@ -23,11 +23,13 @@ use Rattle.layout.specs.Records.{chainCount, headOf, countOf, machinesFo
 use Rattle.layout.specs.Accepted.{Good, Accepted}
 use Rattle.layout.specs.Layout.{unlessZero, actionFrom, placeOf, bank, chains, build, stateFrom, stateOf}
 use Rattle.layout.specs.Opened.{rateWord, headWord, openedWords}
+use Rattle.layout.proofs.ActionWords.{empty-canonical}
 use Rattle.layout.proofs.Banks.{by-points, chains-at, chains-past}
 use Rattle.layout.proofs.Order.{free-order}
 use Rattle.layout.proofs.TwoKept.{free-linked}
 use Rattle.layout.proofs.FixedChains.{each-at}
 use Rattle.layout.proofs.Tables.{openHead, openRest, length-table, opened-length, opened-head, opened-rest, head-at, head-zero, next-at, next-end, tag-at}
+use Rattle.layout.proofs.Counts.{reserve-state}
 
 -- ---- the free chain
 
@@ -98,7 +100,7 @@ module _ (o : Opening) (n : ℕ) where
       let d : getD (openHead o n) (98 + 3 * j) 0 ≡ 0 = head-zero o n (98 + 3 * j) (omega arith) (omega arith) in
       record {
         timer = omega arith;
-        action = rw (a, m, d) (record { flags = omega arith; moments = omega arith; durations = omega arith; kind = λ e. omega arith; padding = λ e. refl; empty = λ e. (refl, refl) });
+        action = rw (a, m, d) (record { shape = empty-canonical; moments = omega arith; durations = omega arith });
         no-timer = λ e. t;
         no-action = λ e. a;
       }
@@ -249,7 +251,7 @@ module _ (o : Opening) (n : ℕ) (fine : openRefusal n o ≡ none) where
         slots = slots-open o n;
         chains = chain-open;
         counts = sum-counts o n ∙ sym (room-is o n);
-        reserve = omega (arith, room-is o n, count-free o n, nothing-reserved o n);
+        reserve = reserve-state _ _ (sum-counts o n ∙ sym (room-is o n)) (omega (arith, room-is o n, count-free o n, nothing-reserved o n));
       }
 
   pub opened-words : Accepted (openedWords o n)

@@ -68,7 +68,7 @@ Ranked (x ∷ l) = (rankOf (x .rec .tag) < 10) × Ranked l
 pub fit-ranked : (k c : ℕ) (l : List Node) → 0 < k % 5 → k < 11 → Fit k c l → Ranked l
 unfolding Fit Ranked
 fit-ranked k c [] a b f = tt
-fit-ranked k c (x ∷ l) a b f = (let z = f .0 .event a b .kind .kinds in omega arith, fit-ranked k c l a b (f .1))
+fit-ranked k c (x ∷ l) a b f = (let z = f .0 .shape .event a b .kind .kinds in omega arith, fit-ranked k c l a b (f .1))
 
 -- an event among the records is an event among the rules' events
 pub insert-map : (z : Side) (x : Node) (l : List Node) → rankOf (x .rec .tag) < 10 → Ranked l → map (heldEvent z) (insertSorted x l) ≡ insert (heldEvent z x) (map (heldEvent z) l)

@@ -18,8 +18,8 @@ use Rattle.queue_event.specs.Order.{insertSorted, Inserted}
 use Rattle.queue_event.specs.Links.{fresh}
 use Rattle.queue_event.proofs.Laws.{nodes-next, pred-is}
 use Rattle.layout.specs.Header.{reserved}
-use Rattle.layout.specs.Records.{chainCount, headOf, countOf, chainAt, machinesFor, RecordOk, Fit, Ordered}
-use Rattle.layout.specs.Accepted.{Good, room, used}
+use Rattle.layout.specs.Records.{chainCount, headOf, countOf, chainAt, machinesFor, RecordOk, Fit, Ordered, used}
+use Rattle.layout.specs.Accepted.{Good, room}
 use Rattle.layout.specs.Layout.{chains, eventFrom, heldEvent, placeOf, stateFrom}
 use Rattle.layout.specs.Changes.{TwoChains, putTwo, chainNo, withChain}
 use Rattle.layout.proofs.Banks.{chains-at}
@@ -27,6 +27,7 @@ use Rattle.layout.proofs.Order.{fit-ranked, insert-map, fit-insert, ord
 use Rattle.layout.proofs.ChainWords.{count-le}
 use Rattle.layout.proofs.TwoChains.{event-state, queue-built}
 use Rattle.layout.proofs.TwoKept.{freed-good}
+use Rattle.layout.proofs.Counts.{reserve-words}
 
 -- ---- a chain of a good state, and its head
 
@@ -130,7 +131,7 @@ module _ (h rs rs′ : List ℕ) (m l t r : ℕ) (wide : length h ≡ 256) (g : 
 
 fit-mark : (rs : List ℕ) (k c a : ℕ) (l : List Node) → Fit k c (record { at = a; rec = recAt rs a } ∷ l) → markOf (tagOf rs a) ≡ k
 unfolding Fit recAt
-fit-mark rs k c a l f = f .0 .chain
+fit-mark rs k c a l f = f .0 .shape .chain
 
 take-is : (s : State) (z : Side) (c : Chain) (h : Head) → h .event .side ≡ z → h .chain ≡ c → takeEvent s h ≡ withChain s z c (tail (queue (side s z .queues) c)) (h .place ∷ s .free)
 unfolding takeEvent liftEvent
@@ -163,7 +164,7 @@ module _ (h rs rs′ : List ℕ) (k : ℕ) (wide : length h ≡ 256) (g : Good h
   pub pop-good : Good popped rs′
   pop-good =
       freed-good h rs rs′ _ _ _ _ _ _ _ pop-two g (omega arith) (rest-fit h rs g k small some) (rest-order h rs g k small some)
-      (omega (arith, g .counts, g .reserve, count-le h 0 chainCount (omega arith)))
+      (omega (arith, g .counts, reserve-words h rs g, count-le h 0 chainCount (omega arith)))
 
   pub pop-state : (z : Side) (c : Chain) (hd : Head) → chainNo z c ≡ k → hd .event .side ≡ z → hd .chain ≡ c → hd .place ≡ headOf h k → stateFrom popped rs′ ≡ takeEvent (stateFrom h rs) hd
   unfolding stateFrom

@@ -5,7 +5,7 @@ use mathlib.Core.Bool.{Bool, true, false, not, _&&_, _||_, false≢true}
 use mathlib.Core.List.{List, [], _∷_, map}
 use native.Mathlib.Omega.{arith}
 use lib.Dec.{ltb, eqb}
-use borrow.Author.Tests.{ltb-false, eqb-false, lt-ltb, le-ltb, ne-eqb}
+use borrow.Author.Tests.{ltb-false, eqb-false, lt-ltb}
 use Rattle.rules.specs.Basics.{before, Side, hasMachine, rank}
 use Rattle.rules.specs.State.{Aggregate, Chain, Event, Held}
 use Rattle.rules.specs.Limits.{momentLimit}
@@ -16,7 +16,7 @@ use Rattle.laws.specs.Sound.{MachineOk as HeldMachine, EventOk as HeldEvent, Ag
 use Rattle.queue_event.specs.Chain.{Node, rankOf}
 use Rattle.queue_event.specs.Tag.{kindField}
 use Rattle.event.specs.Values.{kindAt}
-use Rattle.layout.specs.Records.{MachineOk, Fit, Ordered}
+use Rattle.layout.specs.Records.{MachineBelow, Fit, Ordered}
 use Rattle.layout.specs.Layout.{eventFrom, aggregateFrom, heldEvent, heldAggregate, heldStamp}
 use Rattle.layout.specs.Shape.{Shapes}
 use Rattle.layout.proofs.Order.{machine-kind, rank-kind, Ranked}
@@ -32,7 +32,7 @@ pub fit-free : (c : ℕ) (l : List Node) → Shapes 0 l → Fit 0 c l
 unfolding Shapes Fit
 fit-free c [] s = tt
 fit-free c (x ∷ l) s =
-    (record { chain = s .0 .chain; event = λ a b. absurd (omega arith); stamp = λ a b. absurd (omega arith); aggregate = λ a. absurd (omega arith) }, fit-free c l (s .1))
+    (record { shape = s .0; event = λ a b. absurd (omega arith); stamp = λ a b. absurd (omega arith); aggregate = λ a. absurd (omega arith) }, fit-free c l (s .1))
 
 or-last : (x y : Bool) → (x || y || true) ≡ true
 or-last true y = refl
@@ -40,13 +40,12 @@ or-last false true = refl
 or-last false false = refl
 
 -- a kind with a machine, by its number
-machine-fits : (k n m : ℕ) → k < 10 → HeldMachine (hasMachine (kindAt k)) n m → MachineOk k n m
+machine-fits : (k n m : ℕ) → k < 10 → HeldMachine (hasMachine (kindAt k)) n m → MachineBelow k n m
 machine-fits k n m l f =
     record {
       padding = λ e. subst (λ (x : ℕ). HeldMachine (hasMachine (kindAt x)) n m) e f;
       blocking = λ e. subst (λ (x : ℕ). HeldMachine (hasMachine (kindAt x)) n m) e f;
       timer = λ e. subst (λ (b : Bool). HeldMachine b n m) {y = true} (has ∙ ap (λ (b : Bool). eqb k 2 || eqb k 6 || b) (lt-ltb 7 k e) ∙ or-last (eqb k 2) (eqb k 6)) f;
-      none = λ a b e. subst (λ (b : Bool). HeldMachine b n m) {y = false} (has ∙ rw (ne-eqb k 2 a, ne-eqb k 6 b, le-ltb 7 k e)) f;
     }
   where
     has : hasMachine (kindAt k) ≡ (eqb k 2 || eqb k 6 || ltb 7 k)
@@ -58,9 +57,9 @@ unfolding Shapes Fit eventFrom
 fit-events k c z of [] a b s h = tt
 fit-events k c z of (x ∷ l) a b s h = (
   record {
-    chain = s .0 .chain;
-    event = λ p q. let e = s .0 .event p q in let kk = e .kind .kinds in
-        record { moments = h .0 .moment; spans = h .0 .delay; rest = e .rest; side = e .side; kind = e .kind; machine = machine-fits (kindField (x .rec .tag)) c _ (omega arith) (h .0 .machine) };
+    shape = s .0;
+    event = λ p q. let kk = s .0 .event p q .kind .kinds in
+        record { moments = h .0 .moment; spans = h .0 .delay; machine = machine-fits (kindField (x .rec .tag)) c _ (omega arith) (h .0 .machine) };
     stamp = λ p q. absurd (omega arith);
     aggregate = λ p. absurd (omega arith);
   },
@@ -72,9 +71,9 @@ unfolding Shapes Fit
 fit-stamps k c [] a b d s h = tt
 fit-stamps k c (x ∷ l) a b d s h = (
   record {
-    chain = s .0 .chain;
+    shape = s .0;
     event = λ p q. absurd (omega arith);
-    stamp = λ p q. record { moments = h .0; spans = s .0 .stamp p q .spans; rest = s .0 .stamp p q .rest };
+    stamp = λ p q. h .0;
     aggregate = λ p. absurd (omega arith);
   },
   fit-stamps k c l a b d (s .1) (h .1),
@@ -85,10 +84,10 @@ unfolding Shapes Fit aggregateFrom
 fit-aggregates c [] s h = tt
 fit-aggregates c (x ∷ l) s h = (
   record {
-    chain = s .0 .chain;
+    shape = s .0;
     event = λ p q. absurd (omega arith);
     stamp = λ p q. absurd (omega arith);
-    aggregate = λ p. record { moments = h .0 .0; spans = h .0 .1; rest = s .0 .aggregate p .rest; side = s .0 .aggregate p .side };
+    aggregate = λ p. record { moments = h .0 .0; spans = h .0 .1 };
   },
   fit-aggregates c l (s .1) (h .1),
 )

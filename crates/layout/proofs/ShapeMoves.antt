@@ -9,9 +9,9 @@ use native.Mathlib.Decide.{ℕ-discrete}
 use lib.ListN.{length, getD}
 use Rattle.queue_event.specs.Chain.{pick, Node, nodes, Is, Chain as LinkedFrom}
 use Rattle.queue_event.specs.Order.{stays, insertSorted}
-use Rattle.layout.specs.Records.{headOf, countOf, countsTo}
+use Rattle.layout.specs.Records.{headOf, countOf, RecordShape, countsTo}
 use Rattle.layout.specs.Layout.{chains}
-use Rattle.layout.specs.Shape.{RecordShape, Shapes, ChainShape, Shape}
+use Rattle.layout.specs.Shape.{Shapes, ChainShape, Shape}
 use Rattle.layout.specs.Changes.{putChain}
 use Rattle.layout.proofs.Banks.{upd}
 use Rattle.layout.proofs.ChainWords.{length-chain, head-same, count-same, head-other, count-other, Beside, beside-chain}

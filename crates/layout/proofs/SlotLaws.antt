@@ -9,8 +9,9 @@ use lib.Seq.{getD-set-other, getD-set-same}
 use Rattle.rules.specs.Basics.{Side, client, server}
 use Rattle.layout.specs.Changes.{sideNo}
 use Rattle.layout.specs.Header.{blockOf, SlotOk, SlotsOk, timerOf, actionOf, actionMoment, actionDuration, held, slotsRoom, reserved, Limited, limits}
-use Rattle.layout.specs.Records.{headOf, countOf, machinesFor, ChainsOk, countsTo, chainCount}
-use Rattle.layout.specs.Accepted.{Good, room, used}
+use Rattle.layout.specs.Records.{headOf, countOf, machinesFor, ChainsOk, countsTo, chainCount, used}
+use Rattle.layout.specs.Accepted.{Good, room}
+use Rattle.layout.proofs.Counts.{reserve-state, reserve-words}
 
 -- ---- a change that keeps the heads and the counts
 module _ (h h′ rs : List ℕ) (links : (i : ℕ) → 24 ≤ i → i < 48 → getD h′ i 0 ≡ getD h i 0) (machines : (k : ℕ) → k < chainCount → machinesFor h′ k ≡ machinesFor h k) where
@@ -99,14 +100,17 @@ module _ (h h′ : List ℕ) (j : ℕ) (change : SlotChange h h′ j) where
         limits = λ i l. rw (change .low i (omega arith)) (ok .limits i l);
         slots = slots-kept this (ok .slots);
         chains = chains-ok-kept h h′ rs low-links low-machines (ok .chains);
-        counts = counts-kept h h′ rs low-links low-machines chainCount (omega arith) ∙ ok .counts;
-        reserve = rw (change .low 25 (omega arith)) fits;
+        counts = sum;
+        reserve = reserve-state h′ rs sum (rw (change .low 25 (omega arith)) fits);
       }
+    where
+      sum : countsTo h′ chainCount ≡ room rs
+      sum = counts-kept h h′ rs low-links low-machines chainCount (omega arith) ∙ ok .counts
 
 -- the reserve is of words 12, 13 and the slots
-reserve-words : (h h′ : List ℕ) → getD h′ 12 0 ≡ getD h 12 0 → getD h′ 13 0 ≡ getD h 13 0 → slotsRoom h′ 32 ≡ slotsRoom h 32 → reserved h′ ≡ reserved h
+reserve-same : (h h′ : List ℕ) → getD h′ 12 0 ≡ getD h 12 0 → getD h′ 13 0 ≡ getD h 13 0 → slotsRoom h′ 32 ≡ slotsRoom h 32 → reserved h′ ≡ reserved h
 unfolding reserved
-reserve-words h h′ a b c = rw (a, b, c)
+reserve-same h h′ a b c = rw (a, b, c)
 
 -- a word below the slots is none of theirs
 word-room : (h : List ℕ) (i v : ℕ) → i < 64 → (n : ℕ) → n ≤ 32 → slotsRoom (set h i v) n ≡ slotsRoom h n
@@ -150,13 +154,16 @@ module _ (h rs : List ℕ) (i v : ℕ) (low : 9 < i) (high : i < 18) (wide : len
         limits = word-limits;
         slots = word-slots (ok .slots);
         chains = chains-ok-kept h (set h i v) rs (λ j a b. word-other j (λ e. omega arith)) (λ k l. word-other (8 + k / 6) (λ e. omega arith)) (ok .chains);
-        counts = counts-kept h (set h i v) rs (λ j a b. word-other j (λ e. omega arith)) (λ k l. word-other (8 + k / 6) (λ e. omega arith)) chainCount (omega arith) ∙ ok .counts;
-        reserve = rw (word-other 25 (λ e. omega arith)) room-kept;
+        counts = sum;
+        reserve = reserve-state (set h i v) rs sum (rw (word-other 25 (λ e. omega arith)) room-kept);
       }
+    where
+      sum : countsTo (set h i v) chainCount ≡ room rs
+      sum = counts-kept h (set h i v) rs (λ j a b. word-other j (λ e. omega arith)) (λ k l. word-other (8 + k / 6) (λ e. omega arith)) chainCount (omega arith) ∙ ok .counts
 
   -- but for the block ends, none of them is reserved for
   pub plain-good : (i ≡ 12 → ⊥) → (i ≡ 13 → ⊥) → Good (set h i v) rs
-  plain-good a b = word-good (rw same (ok .reserve))
+  plain-good a b = word-good (rw same (reserve-words h rs ok))
     where
       same : reserved (set h i v) ≡ reserved h
-      same = reserve-words h (set h i v) (word-other 12 (λ e. a (sym e))) (word-other 13 (λ e. b (sym e))) (word-room h i v (omega arith) 32 (omega arith))
+      same = reserve-same h (set h i v) (word-other 12 (λ e. a (sym e))) (word-other 13 (λ e. b (sym e))) (word-room h i v (omega arith) 32 (omega arith))

@@ -8,7 +8,8 @@ use lib.Seq.{getD-set-other, getD-set-same}
 use Rattle.rules.specs.Limits.{momentLimit}
 use Rattle.layout.specs.Changes.{putTimer, putAction}
 use Rattle.layout.specs.Header.{ActionOk, SlotOk, machinesOf, timerOf, actionOf, actionMoment, actionDuration, held, reserved}
-use Rattle.layout.specs.Accepted.{Good, room, used}
+use Rattle.layout.specs.Accepted.{Good, room}
+use Rattle.layout.specs.Records.{used}
 use Rattle.layout.proofs.SlotLaws.{SlotChange, slot-reserve, slot-good}
 
 far : (h : List ℕ) (i v j : ℕ) → (j ≡ i → ⊥) → getD (set h i v) j 0 ≡ getD h j 0

@@ -8,12 +8,13 @@ use lib.ListN.{length}
 use Rattle.queue_event.specs.Words.{nextOf}
 use Rattle.queue_event.specs.Chain.{recAt, Node, nodes, Is, Chain as LinkedFrom}
 use Rattle.layout.specs.Header.{reserved}
-use Rattle.layout.specs.Records.{chainCount, headOf, countOf, machinesFor, Fit, Ordered, ChainOk, countsTo}
-use Rattle.layout.specs.Accepted.{Good}
+use Rattle.layout.specs.Records.{chainCount, headOf, countOf, machinesFor, RecordShape, Fit, Ordered, ChainOk, countsTo}
+use Rattle.layout.specs.Accepted.{Good, room}
 use Rattle.layout.specs.Changes.{putChain, putTwo, TwoChains}
 use Rattle.layout.proofs.Order.{free-order}
 use Rattle.layout.proofs.ChainWords.{length-chain, count-other, sum-above, count-le, Beside, beside-chain, limits-beside, slots-beside, machines-beside, reserve-beside}
 use Rattle.layout.proofs.TwoChains.{count-one, head-one, count-two, head-two, count-else, head-else}
+use Rattle.layout.proofs.Counts.{reserve-state}
 
 -- a chain of number k that holds l is in order, where l is fit and in order
 pub is-ok :
@@ -33,7 +34,8 @@ pub free-linked : (rs : List ℕ) (c n a : ℕ) → LinkedFrom rs 0 n a → Fit 
 unfolding LinkedFrom Fit nodes recAt
 free-linked rs c zero a l = tt
 free-linked rs c (suc n) a l =
-    (record { chain = l .1; event = λ p. absurd (omega arith); stamp = λ p q. absurd (omega arith); aggregate = λ p. absurd (omega arith) }, free-linked rs c n (nextOf rs a) (l .2))
+    let s : RecordShape 0 _ _ = record { chain = l .1; event = λ p. absurd (omega arith); stamp = λ p q. absurd (omega arith); aggregate = λ p. absurd (omega arith) } in
+    (record { shape = s; event = λ p. absurd (omega arith); stamp = λ p q. absurd (omega arith); aggregate = λ p. absurd (omega arith) }, free-linked rs c n (nextOf rs a) (l .2))
 
 pub free-fit : (rs : List ℕ) (c n a : ℕ) (l : List Node) → Is 0 rs n a l → Fit 0 c l
 free-fit rs c n a l i = subst (Fit 0 c) (i .held) (free-linked rs c n a (i .chain))
@@ -83,9 +85,12 @@ module _ (h rs rs′ : List ℕ) (j a n k b m : ℕ) (y x : List Node) (t : TwoC
         limits = limits-beside h (putTwo h j a n k b m) two-beside (g .limits);
         slots = slots-beside h (putTwo h j a n k b m) two-beside (g .slots);
         chains = chain-after;
-        counts = two-sum ∙ g .counts ∙ ap (λ l. l / 4) (sym (t .len));
-        reserve = omega (arith, reserve-beside h (putTwo h j a n k b m) two-beside, counted 0 (omega arith));
+        counts = sum-after;
+        reserve = reserve-state (putTwo h j a n k b m) rs′ sum-after (omega (arith, reserve-beside h (putTwo h j a n k b m) two-beside, counted 0 (omega arith)));
       }
+    where
+      sum-after : countsTo (putTwo h j a n k b m) chainCount ≡ room rs′
+      sum-after = two-sum ∙ g .counts ∙ ap (λ l. l / 4) (sym (t .len))
 
 -- with the free chain as the one
 module _ (h rs rs′ : List ℕ) (a n k b m : ℕ) (y x : List Node) (t : TwoChains h rs rs′ 0 a n k b m y x) (g : Good h rs) where

@@ -18,7 +18,7 @@ module _ (rs : List ℕ) (k c : ℕ) where
   chain-linked : (n m r at : ℕ) → Chain rs k c n m r at → Linked rs k n at
   unfolding Chain Linked
   chain-linked zero m r at x = x
-  chain-linked (suc n) m r at x = (x .0 .within, x .0 .holds .chain, chain-linked n (momentOf rs at) (kindField (tagOf rs at)) (nextOf rs at) (x .1))
+  chain-linked (suc n) m r at x = (x .0 .within, x .0 .holds .shape .chain, chain-linked n (momentOf rs at) (kindField (tagOf rs at)) (nextOf rs at) (x .1))
 
   chain-fit : (n m r at : ℕ) → Chain rs k c n m r at → Fit k c (nodes rs n at)
   unfolding Chain Fit nodes recAt

@@ -1,10 +1,12 @@
 -- Document 01, "An accepted state", of the lent words: which words are a state at all. Assumes nothing.
-use Prim.Native.Nat.{ℕ, _+_, _-_, _≤_, _%_, _/_}
+use Prim.Native.Nat.{ℕ, _+_, _≤_, _%_, _/_}
 use mathlib.Core.Path.{_≡_}
 use mathlib.Core.List.{List}
 use lib.ListN.{length, take, drop}
-use Rattle.layout.specs.Header.{Limited, SlotsOk, reserved}
-use Rattle.layout.specs.Records.{ChainsOk, chainCount, countsTo, countOf}
+use Rattle.rules.specs.State.{used, reserved}
+use Rattle.layout.specs.Header.{Limited, SlotsOk}
+use Rattle.layout.specs.Records.{chainCount, ChainsOk, countsTo}
+use Rattle.layout.specs.Layout.{stateFrom}
 
 -- "exactly 256 + 4R words of 64 bits, R from 1 to 65,535"
 pub record SizeOk (n : ℕ) : Type 0 where
@@ -16,17 +18,14 @@ pub record SizeOk (n : ℕ) : Type 0 where
 abbrev pub room : List ℕ → ℕ
 room rs = length rs / 4
 
--- "Used = records not free": R less the free count
-abbrev pub used : List ℕ → List ℕ → ℕ
-used h rs = room rs - countOf h 0
-
--- a header and the records after it: values inside their limits, slots, chains, "the counts add up to R", "Used + reserved never exceeds R"
+-- a header and the records after it: values inside their limits, slots, chains, "the counts add up to R", "Used + reserved never exceeds R", of the state that
+-- they hold
 pub record Good (h rs : List ℕ) : Type 0 where
   pub limits : Limited h
   pub slots : SlotsOk h
   pub chains : ChainsOk h rs
   pub counts : countsTo h chainCount ≡ room rs
-  pub reserve : used h rs + reserved h ≤ room rs
+  pub reserve : used (stateFrom h rs) + reserved (stateFrom h rs) ≤ room rs
 
 -- the first 256 words are the header, then come the records
 pub record Accepted (w : List ℕ) : Type 0 where

@@ -46,13 +46,17 @@ actionDuration h j = getD h (98 + 3 * j) 0
 
 -- "An action's first word is kind + 4 bypass + 8 replace, with kind 1 for `SendPadding` and 2 for `BlockOutgoing` [..] An empty slot is three zero words.
 -- A `SendPadding` has duration 0."
-pub record ActionOk (word moment duration : ℕ) : Type 0 where
+pub record ActionShape (word moment duration : ℕ) : Type 0 where
   pub flags : word ≤ 15
-  pub moments : moment ≤ momentLimit
-  pub durations : duration ≤ durationLimit
   pub kind : word % 4 ≡ 3 → ⊥
   pub padding : word % 4 ≤ 1 → duration ≡ 0
   pub empty : word % 4 ≡ 0 → (word ≡ 0) × (moment ≡ 0)
+
+-- moment and duration within their limits
+pub record ActionOk (word moment duration : ℕ) : Type 0 where
+  pub shape : ActionShape word moment duration
+  pub moments : moment ≤ momentLimit
+  pub durations : duration ≤ durationLimit
 
 -- "An empty slot is three zero words", and no timer
 pub record SlotEmpty (h : List ℕ) (j : ℕ) : Type 0 where
@@ -71,7 +75,7 @@ pub record SlotOk (h : List ℕ) (j : ℕ) : Type 0 where
 abbrev pub SlotsOk : List ℕ → Type 0
 SlotsOk h = (j : ℕ) → j < 32 → SlotOk h j
 
--- ---- "Reserved = 3 for each side with a block set, 1 for each timer held, 4 for each action held."
+-- ---- "Reserved = 3 for each side with a block set, 1 for each timer held, 4 for each action held.", as the code reckons it. It is the state's (proofs/Counts)
 
 -- 1 for a word that is set
 abbrev pub held : ℕ → ℕ

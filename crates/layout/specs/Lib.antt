@@ -1,8 +1,8 @@
 pub mod Decides
 pub mod Header
 pub mod Records
-pub mod Accepted
 pub mod Layout
+pub mod Accepted
 pub mod Places
 pub mod Spare
 pub mod Opened

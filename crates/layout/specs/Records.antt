@@ -26,7 +26,7 @@ countOf h k = getD h (25 + 2 * k) 0
 abbrev pub machinesFor : List ℕ → ℕ → ℕ
 machinesFor h k = machinesOf h (k / 6)
 
--- ---- one record
+-- ---- the fields of an event's tag
 
 -- how many machines an event of this kind may name, of a side with so many: kinds 2, 6, 8 and 9 have one, all others name 0
 pub record MachineBound (kind machines bound : ℕ) : Type 0 where
@@ -35,12 +35,20 @@ pub record MachineBound (kind machines bound : ℕ) : Type 0 where
   pub timer : 7 < kind → bound ≡ machines
   pub none : (kind ≡ 2 → ⊥) → (kind ≡ 6 → ⊥) → kind ≤ 7 → bound ≡ 1
 
--- "an event's machine (kinds 2, 6, 8, 9) is below its side's count; of other kinds it is 0"
-pub record MachineOk (kind machines machine : ℕ) : Type 0 where
+-- "an event's machine (kinds 2, 6, 8, 9) is below its side's count"
+pub record MachineBelow (kind machines machine : ℕ) : Type 0 where
   pub padding : kind ≡ 2 → machine < machines
   pub blocking : kind ≡ 6 → machine < machines
   pub timer : 7 < kind → machine < machines
-  pub none : (kind ≡ 2 → ⊥) → (kind ≡ 6 → ⊥) → kind ≤ 7 → machine ≡ 0
+
+-- "of other kinds it is 0"
+abbrev pub NoMachine : ℕ → ℕ → Type 0
+NoMachine kind machine = (kind ≡ 2 → ⊥) → (kind ≡ 6 → ⊥) → kind ≤ 7 → machine ≡ 0
+
+-- both
+pub record MachineOk (kind machines machine : ℕ) : Type 0 where
+  pub below : MachineBelow kind machines machine
+  pub none : NoMachine kind machine
 
 -- "every event in the chain its kind and side call for", base (1), blocking (2), bypassable (3) or internal (4): "base holds kind 1, blocking kind 0 without
 -- and bypassable kind 0 with the bypass flag, internal kinds 2 to 9"
@@ -51,35 +59,65 @@ pub record KindOk (place kind flag : ℕ) : Type 0 where
   pub bypass : 1 < place → place < 4 → flag ≡ place - 2
   pub internal : 3 < place → 1 < kind
 
--- an event of a side with so many machines: moment and delay within their limits; "an event's tag is below 65,536 and has side 0"
-pub record EventOk (place machines moment span tag : ℕ) : Type 0 where
-  pub moments : moment ≤ momentLimit
-  pub spans : span ≤ delayLimit
+-- ---- the shape of a record: "a field that its record does not use is 0"
+
+-- "an event's tag is below 65,536 and has side 0", in the chain of this place
+pub record EventShape (place tag : ℕ) : Type 0 where
   pub rest : tag < 65536
   pub side : sideField tag ≡ 0
   pub kind : KindOk place (kindField tag) (bypassField tag)
-  pub machine : MachineOk (kindField tag) machines (machineField tag)
-
--- "an aggregate's tag is 11 or 2,059"; moment and length within their limits
-pub record AggregateOk (moment span tag : ℕ) : Type 0 where
-  pub moments : moment ≤ momentLimit
-  pub spans : span ≤ momentLimit
-  pub rest : tag % 2048 ≡ 11
-  pub side : tag < 4096
+  pub machine : NoMachine (kindField tag) (machineField tag)
 
 -- "a stamp's is 5 or 10 and its length word 0": nothing but the chain number
-pub record StampOk (moment span tag : ℕ) : Type 0 where
-  pub moments : moment ≤ momentLimit
+pub record StampShape (span tag : ℕ) : Type 0 where
   pub spans : span ≡ 0
   pub rest : tag < 16
 
--- a record of chain k, whose side has so many machines: 0 free, 5 and 10 stamps, 11 aggregates, else events. "Of a free record only next and
--- chain number 0 mean anything"
-pub record RecordOk (k machines moment span tag : ℕ) : Type 0 where
+-- "an aggregate's tag is 11 or 2,059"
+pub record AggregateShape (tag : ℕ) : Type 0 where
+  pub rest : tag % 2048 ≡ 11
+  pub side : tag < 4096
+
+-- a record of chain k: 0 free, 5 and 10 stamps, 11 aggregates, else events. "Of a free record only next and chain number 0 mean anything"
+pub record RecordShape (k span tag : ℕ) : Type 0 where
   pub chain : markOf tag ≡ k
-  pub event : 0 < k % 5 → k < 11 → EventOk (k % 5) machines moment span tag
-  pub stamp : k % 5 ≡ 0 → 0 < k → StampOk moment span tag
-  pub aggregate : k ≡ 11 → AggregateOk moment span tag
+  pub event : 0 < k % 5 → k < 11 → EventShape (k % 5) tag
+  pub stamp : k % 5 ≡ 0 → 0 < k → StampShape span tag
+  pub aggregate : k ≡ 11 → AggregateShape tag
+
+-- ---- what its shape leaves open
+
+-- an event of a side with so many machines: moment, delay and machine within their limits
+pub record EventLimits (machines moment span tag : ℕ) : Type 0 where
+  pub moments : moment ≤ momentLimit
+  pub spans : span ≤ delayLimit
+  pub machine : MachineBelow (kindField tag) machines (machineField tag)
+
+-- an aggregate: moment and length within their limits
+pub record AggregateLimits (moment span : ℕ) : Type 0 where
+  pub moments : moment ≤ momentLimit
+  pub spans : span ≤ momentLimit
+
+-- ---- a record, of its shape and within its limits
+
+pub record EventOk (place machines moment span tag : ℕ) : Type 0 where
+  pub shape : EventShape place tag
+  pub limits : EventLimits machines moment span tag
+
+pub record AggregateOk (moment span tag : ℕ) : Type 0 where
+  pub shape : AggregateShape tag
+  pub limits : AggregateLimits moment span
+
+pub record StampOk (moment span tag : ℕ) : Type 0 where
+  pub shape : StampShape span tag
+  pub moments : moment ≤ momentLimit
+
+-- a record of chain k, whose side has so many machines
+pub record RecordOk (k machines moment span tag : ℕ) : Type 0 where
+  pub shape : RecordShape k span tag
+  pub event : 0 < k % 5 → k < 11 → EventLimits machines moment span tag
+  pub stamp : k % 5 ≡ 0 → 0 < k → moment ≤ momentLimit
+  pub aggregate : k ≡ 11 → AggregateLimits moment span
 
 -- ---- one record after another
 
@@ -118,6 +156,10 @@ ChainsOk h rs = (k : ℕ) → k < chainCount → ChainOk h rs k
 unfoldable pub countsTo : List ℕ → ℕ → ℕ
 countsTo h zero = 0
 countsTo h (suc k) = countsTo h k + countOf h k
+
+-- "Used = records not free", as the code reckons it: R less the free count. It is the state's (proofs/Counts)
+abbrev pub used : List ℕ → List ℕ → ℕ
+used h rs = length rs / 4 - countOf h 0
 
 -- ---- the same as the test walks it: link by link
 

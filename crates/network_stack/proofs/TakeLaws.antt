@@ -19,7 +19,8 @@ use Rattle.queue_event.specs.Chain.{Node}
 use Rattle.queue_event.specs.Tag.{kindField, machineField}
 use Rattle.layout.specs.Layout.{eventFrom, heldEvent, stateOf}
 use Rattle.event.specs.Values.{kindAt, eventValue}
-use Rattle.layout.specs.Shape.{EventShape, Shapes}
+use Rattle.layout.specs.Records.{EventShape}
+use Rattle.layout.specs.Shape.{Shapes}
 use Rattle.layout.specs.Changes.{chainNo, sideNo}
 use Rattle.queue.specs.declared.peek.Head.{Head}
 use Rattle.queue.specs.Changes.{Leaves, MayRelease, Released, chainsIn, countIn, headIn}

@@ -16,7 +16,7 @@ use Rattle.queue_event.specs.Words.{momentOf, lengthOf, tagOf, In}
 use Rattle.queue_event.specs.Chain.{Rec, recAt, nodes}
 use Rattle.queue_event.specs.Values.{readEvent}
 use Rattle.queue_event.specs.Tag.{flag as flagOf, flag, kindField, paddingField, bypassField, replaceField, machineField}
-use Rattle.layout.specs.Records.{headOf, countOf, machinesFor, LinkOk, EventOk}
+use Rattle.layout.specs.Records.{headOf, countOf, machinesFor, LinkOk}
 use Rattle.layout.specs.Accepted.{Good}
 use Rattle.layout.specs.Layout.{chains, eventFrom, heldEvent}
 use Rattle.event.specs.Values.{kindAt, eventValue}
@@ -110,16 +110,13 @@ module _ (h rs : List ℕ) (n : ℕ) (b : Bool) (k : ℕ) (lo : 1 ≤ n) (hi : n
     link : LinkOk rs k (machinesFor h k) 0 0 (headOf h k)
     link = head-link h rs k g (omega (arith, small)) more
 
-    fits-event : EventOk (k % 5) (machinesFor h k) (momentOf rs (headOf h k)) (lengthOf rs (headOf h k)) (tagOf rs (headOf h k))
-    fits-event = link .holds .event (omega (arith, place)) (omega (arith, small))
-
     pub head-within : (p : ℕ) → p ≡ headOf h k → In rs p
     head-within p ep = rw ep (link .within)
 
     -- its event's moment
     pub head-moment : (p : ℕ) (e : SimEvent) → p ≡ headOf h k → e ≡ readEvent b (recAt rs p) → e .moment .0 ≤ momentLimit
     unfolding recAt
-    head-moment p e ep ee = rw (ee, ep) (fits-event .moments)
+    head-moment p e ep ee = rw (ee, ep) (link .holds .event (omega (arith, place)) (omega (arith, small)) .moments)
 
     -- the sum fits a word
     pub head-plus : (p : ℕ) (e : SimEvent) (plus : ℕ) → p ≡ headOf h k → e ≡ readEvent b (recAt rs p) → plus ≤ momentLimit → e .moment .0 + plus < 2 ^ 64
@@ -127,7 +124,7 @@ module _ (h rs : List ℕ) (n : ℕ) (b : Bool) (k : ℕ) (lo : 1 ≤ n) (hi : n
 
     head-kind : (p : ℕ) (e : SimEvent) → p ≡ headOf h k → e ≡ readEvent b (recAt rs p) → e .kind .0 ≤ 9
     unfolding recAt
-    head-kind p e ep ee = rw (ee, ep) (fits-event .kind .kinds)
+    head-kind p e ep ee = rw (ee, ep) (link .holds .shape .event (omega (arith, place)) (omega (arith, small)) .kind .kinds)
 
     -- the head, with the length added to its moment
     pub first-there :

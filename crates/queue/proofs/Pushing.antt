@@ -15,10 +15,9 @@ use Rattle.event.specs.HandedIn.{sideOf, hasMachineNo, aggregateIn}
 use Rattle.event.specs.declared.SimEvent.{SimEvent}
 use Rattle.event.specs.declared.AggregateDelay.{AggregateDelay}
 use Rattle.queue_event.specs.Tag.{markOf, bit, eventTag, aggregateTag, kindField, bypassField, sideField, machineField}
-use Rattle.layout.specs.Records.{KindOk}
+use Rattle.layout.specs.Records.{KindOk, EventShape, RecordShape}
 use Rattle.event.specs.Values.{kindAt, eventValue}
 use Rattle.layout.specs.Layout.{eventFrom, aggregateFrom, stateOf}
-use Rattle.layout.specs.Shape.{EventShape, RecordShape}
 use Rattle.layout.specs.Changes.{sideNo, chainNo}
 use Rattle.queue_event.proofs.Fields.{bit-flag, event-mark, event-kind, event-padding, event-bypass, event-replace, event-side, event-machine, event-small, aggregate-mark}
 use Rattle.layout.proofs.Order.{chain-kind, machine-kind}

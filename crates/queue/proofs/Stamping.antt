@@ -14,7 +14,8 @@ use Rattle.rules.specs.NetworkStep.{stampsKept, freeWithEvicted, stamp}
 use Rattle.rules.specs.Queueing.{pushEvent, putEvent}
 use Rattle.queue_event.specs.Tag.{markOf, stampTag}
 use Rattle.layout.specs.Layout.{stateOf}
-use Rattle.layout.specs.Shape.{RecordShape, Shaped}
+use Rattle.layout.specs.Records.{RecordShape}
+use Rattle.layout.specs.Shape.{Shaped}
 use Rattle.layout.specs.Changes.{sideNo}
 use Rattle.queue.specs.Changes.{AppendedTo, Leaves, MayTake, countIn}
 use Rattle.queue.specs.Stamps.{firstPlace, dropStamp, addStamp, staleFirst, staleCount, dropStamps}

@@ -10,9 +10,9 @@ use Rattle.queue_event.specs.Chain.{Node}
 use Rattle.queue_event.specs.Frame.{freed}
 use Rattle.queue_event.specs.Links.{fresh}
 use Rattle.queue_event.specs.Order.{insertSorted}
-use Rattle.layout.specs.Records.{headOf, countOf}
+use Rattle.layout.specs.Records.{headOf, countOf, RecordShape}
 use Rattle.layout.specs.Layout.{chains, stateOf}
-use Rattle.layout.specs.Shape.{RecordShape, Shaped}
+use Rattle.layout.specs.Shape.{Shaped}
 use Rattle.layout.specs.Changes.{putChain}
 use Rattle.layout.proofs.Banks.{upd}
 

@@ -14,7 +14,8 @@ use Rattle.rules.specs.State.{State, side, withSide, withSum, withBlock, withEn
 use Rattle.rules.specs.ChoiceRound.{clearTimer, clearAction, counted}
 use Rattle.queue_event.specs.Tag.{flag}
 use Rattle.layout.specs.Layout.{bank, lessOne, stateFrom, stateOf, actionFrom}
-use Rattle.layout.specs.Shape.{Shaped, ActionShape}
+use Rattle.layout.specs.Header.{ActionShape}
+use Rattle.layout.specs.Shape.{Shaped}
 use Rattle.layout.specs.Spare.{Spare}
 use Rattle.layout.specs.Changes.{sideNo, putAction}
 use Rattle.layout.proofs.Banks.{bank-at}

@@ -14,7 +14,7 @@ use Rattle.layout.specs.Accepted.{Good, room}
 use Rattle.layout.specs.Layout.{bank, stateFrom}
 use Rattle.queue_event.specs.Tag.{flag}
 use Rattle.layout.specs.Changes.{sideNo}
-use Rattle.layout.proofs.Counts.{used-is, reserved-is}
+use Rattle.layout.proofs.Counts.{used-is}
 use Rattle.layout.proofs.ChainWords.{count-le}
 
 module _ (h rs : List ℕ) where
@@ -33,11 +33,11 @@ module _ (h rs : List ℕ) where
 
   -- the free records are what the used ones leave
   pub used-free : Good h rs → usedOf (stateFrom h rs) + getD h 25 0 ≡ room rs
-  used-free g = omega (arith, used-is h rs g, count-le h 0 12 (omega arith), g .counts)
+  used-free g = omega (arith, used-is h rs (g .counts), count-le h 0 12 (omega arith), g .counts)
 
   -- and they are enough for the reserve
   pub reserve-kept : Good h rs → reservedOf (stateFrom h rs) ≤ getD h 25 0
-  reserve-kept g = omega (arith, used-free g, reserved-is h rs, used-is h rs g, g .reserve)
+  reserve-kept g = omega (arith, used-free g, g .reserve)
 
 pub machines-most : (h : List ℕ) (c : Bool) → Limited h → getD h (8 + sideNo (sideOf c)) 0 ≤ 16
 machines-most h true ok = ok 8 (omega arith)

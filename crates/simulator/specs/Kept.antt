@@ -11,7 +11,7 @@ use Rattle.rules.specs.Effects.{afterSetAction}
 use Rattle.event.specs.HandedIn.{hasMachineNo}
 use Rattle.event.specs.declared.SimEvent.{SimEvent}
 use Rattle.layout.specs.Layout.{actionFrom}
-use Rattle.layout.specs.Shape.{ActionShape}
+use Rattle.layout.specs.Header.{ActionShape}
 
 -- "Kinds 0, 1, 3, 4, 5 and 7 have no machine: the one handed in is ignored and 0 is kept."
 abbrev pub keptEvent : SimEvent → SimEvent

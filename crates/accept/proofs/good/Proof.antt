@@ -3,6 +3,7 @@ use mathlib.Core.Path.{sym, _∙_}
 use native.Mathlib.Omega.{arith}
 use lib.Dec.{lit<}
 use borrow.Author.Needs.{needs}
+use Rattle.layout.proofs.Counts.{reserve-state, reserve-words}
 use Rattle.layout.proofs.Deciding.{holds, fails, refused, passed}
 use Rattle.accept.proofs.good.Statement.{statement}
 use Rattle.accept.proofs.good.Tie as tie
@@ -44,10 +45,10 @@ add-if5 : tie.Need-add-if5
 add-if5 c = search needs
 
 returns-5 : tie.Need-returns-5
-returns-5 c = fails (λ p. omega (arith, p .reserve, c .before .reserved .ensures))
+returns-5 c = fails (λ p. omega (arith, reserve-words _ _ p, c .before .reserved .ensures))
 
 returns-6 : tie.Need-returns-6
-returns-6 c = holds (record { limits = passed (c .before .before .before .before .before .before .before .before .before .before .limited .ensures) (c .before .before .before .before .before .before .before .before .before .if1 .left); slots = passed (c .before .before .before .before .before .before .before .before .slots-ok .ensures) (c .before .before .before .before .before .before .before .if2 .left); chains = passed (c .before .before .before .before .before .before .chains-ok .ensures) (c .before .before .before .before .before .if3 .left); counts = sym (c .before .before .before .before .counted .ensures) ∙ (c .before .before .before .if4 .left); reserve = omega (arith, c .before .reserved .ensures) })
+returns-6 c = let sum = sym (c .before .before .before .before .counted .ensures) ∙ (c .before .before .before .if4 .left) in holds (record { limits = passed (c .before .before .before .before .before .before .before .before .before .before .limited .ensures) (c .before .before .before .before .before .before .before .before .before .if1 .left); slots = passed (c .before .before .before .before .before .before .before .before .slots-ok .ensures) (c .before .before .before .before .before .before .before .if2 .left); chains = passed (c .before .before .before .before .before .before .chains-ok .ensures) (c .before .before .before .before .before .if3 .left); counts = sum; reserve = reserve-state _ _ sum (omega (arith, c .before .reserved .ensures)) })
 
 pub good-spec : {M : Type 1} → statement M
 good-spec =
