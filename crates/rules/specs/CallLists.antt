@@ -41,7 +41,7 @@ unfoldable pub finishedStates : ℕ → ℕ → State → List State
 finishedStates zero now s = []
 finishedStates (suc f) now s = finished (λ (t : State). finishedStates f now t) (round s now)
 
--- the same with a bound that is never reached
+-- the same with a bound that is never reached: demand 3 says so (simulator/specs/Demand, `every-round`)
 abbrev pub roundStates : State → ℕ → List State
 roundStates s now = finishedStates (suc (roundsLeft s)) now s
 

@@ -116,7 +116,7 @@ stepTunnel s now e =
       sums = (if tested then testSums x (s .client .sum) (e .moment) else []) ++ map (λ (a : Aggregate). a .moment) new ++ (t ∷ []);
     }
 
--- ---- the step: yes for `TunnelSent` and `TunnelRecv`, else no
+-- ---- the step, kind by kind: yes for `TunnelSent` and `TunnelRecv`, else no
 
 unfoldable pub stepFor : Kind → State → ℕ → Event → Stepped
 stepFor TunnelSent s now e = stepTunnel s now e
@@ -131,6 +131,6 @@ stepFor BlockingEnd s now e = unmoved s false
 stepFor TimerBegin s now e = unmoved s false
 stepFor TimerEnd s now e = unmoved s false
 
--- `sim_network_stack`
+-- of an event, by its kind: `sim_network_stack`
 abbrev pub step : State → ℕ → Event → Stepped
 step s now e = stepFor (e .kind) s now e

@@ -17,6 +17,7 @@ chainFor BlockingEnd flag = internal
 chainFor TimerBegin flag = internal
 chainFor TimerEnd flag = internal
 
+-- by its kind and its bypass flag
 abbrev pub chainOf : Event → Chain
 chainOf e = chainFor (e .kind) (e .bypass)
 

@@ -12,7 +12,7 @@ use Rattle.rules.specs.Basics.{NormalSent, Side, client, server}
 use Rattle.rules.specs.Opening.{Opening, openRefusal, opened}
 use Rattle.rules.specs.ChoiceRound.{Slot}
 use Rattle.rules.specs.Calls.{call}
-use Rattle.rules.specs.CaseStates.{fresh, plain, queuedIn, refusedIn, rules, withAction, withTimer}
+use Rattle.rules.specs.CaseStates.{handedIn, fresh, plain, queuedIn, refusedIn, rules, withAction, withTimer}
 
 -- ---- what they begin from
 
@@ -42,6 +42,10 @@ tiny = opened plainOpening 260
 
 abbrev tinyFull : State
 tinyFull = queuedIn tiny (plain NormalSent 5 client 0)
+
+-- the same with one machine of the client
+abbrev oneMachine : State
+oneMachine = opened (opensSide client (fixedAs 0 0 1)) 260
 
 abbrev slot : Side → ℕ → Slot
 slot z m = record { side = z; machine = m }
@@ -98,6 +102,14 @@ pub record TableInputs : Type 0 where
   -- 5: machine 0 of 0; machine 1 of 2 is there, 2 is not. Kind 10 with machine 99 gives 6, `Cancel` for machine 0 of 0 gives 5
   pub five : call tiny (set-timer (slot client 0) 5) ≡ refusedIn 5 tiny
   pub five-machine : map (λ (m : ℕ). told fresh (set-timer (slot client m) 5)) (1 ∷ 2 ∷ []) ≡ done ∷ refused 5 0 ∷ []
+  pub five-slots :
+      (map (λ (m : ℕ). told fresh (clear-timer (slot client m))) (1 ∷ 2 ∷ []) ≡ done ∷ refused 5 0 ∷ [])
+      × (map (λ (m : ℕ). told fresh (set-action (slot client m) (actionFor 1 5 0))) (1 ∷ 2 ∷ []) ≡ done ∷ refused 5 0 ∷ [])
+      × (map (λ (m : ℕ). told fresh (clear-action (slot client m))) (1 ∷ 2 ∷ []) ≡ done ∷ refused 5 0 ∷ [])
+  -- the count is that of the slot's side, or of the event's
+  pub five-side :
+      (map (λ (z : Side). told oneMachine (set-timer (slot z 0) 5)) (client ∷ server ∷ []) ≡ done ∷ refused 5 0 ∷ [])
+      × (map (λ (z : Side). told oneMachine (push (handedIn 9 5 z))) (client ∷ server ∷ []) ≡ done ∷ refused 5 0 ∷ [])
   pub five-kinds :
       map (λ (k : ℕ). told fresh (push (eventFor k 5 0 2))) (0 ∷ 1 ∷ 2 ∷ 3 ∷ 4 ∷ 5 ∷ 6 ∷ 7 ∷ 8 ∷ 9 ∷ 10 ∷ [])
       ≡ done ∷ done ∷ refused 5 0 ∷ done ∷ done ∷ done ∷ refused 5 0 ∷ done ∷ refused 5 0 ∷ refused 5 0 ∷ refused 6 0 ∷ []
@@ -130,8 +142,27 @@ pub record TableInputs : Type 0 where
   -- 8: moment 5, delay 6. Delay 5 is not above it, and such an event may be pushed
   pub eight : map (λ (d : ℕ). told fresh (sim-network-stack 5 (eventFor 0 5 d 0))) (5 ∷ 6 ∷ []) ≡ yes-step ∷ refused 8 0 ∷ []
   pub eight-pushed : told fresh (push (eventFor 0 5 6 0)) ≡ done
+  -- nor is it given for another kind, or for padding
+  pub eight-others :
+      (map (λ (k : ℕ). told fresh (sim-network-stack 5 (eventFor k 5 6 0))) (1 ∷ 2 ∷ 3 ∷ []) ≡ no-step ∷ no-step ∷ yes-step ∷ [])
+      × (told fresh (sim-network-stack 5 (record { kind = 0; moment = 5; delay = 6; side = client; padding = true; bypass = false; replace = false; machine = 0 })) ≡ yes-step)
   -- 9: R = 1, second push
   pub nine : (call tiny (push (eventFor 1 5 0 0)) ≡ record { answer = done; state = tinyFull }) × (call tinyFull (push (eventFor 1 5 0 0)) ≡ refusedIn 9 tinyFull)
+  -- R = 1: a timer reserves the record, an action is for four; a step queues its event, a packet's needs a stamp too
+  pub nine-slots :
+      (told oneMachine (set-timer (slot client 0) 5) ≡ done)
+      × (told (queuedIn oneMachine (plain NormalSent 5 client 0)) (set-timer (slot client 0) 5) ≡ refused 9 0)
+      × (told oneMachine (set-action (slot client 0) (actionFor 1 5 0)) ≡ refused 9 0)
+  pub nine-step :
+      (map (λ (k : ℕ). told tiny (sim-network-stack 5 (eventFor k 5 0 0))) (0 ∷ 1 ∷ []) ≡ refused 9 0 ∷ no-step ∷ [])
+      × (map (λ (k : ℕ). told tinyFull (sim-network-stack 5 (eventFor k 5 0 0))) (0 ∷ 1 ∷ 4 ∷ []) ≡ refused 9 0 ∷ refused 9 0 ∷ no-step ∷ [])
+  -- "Checked in this order": 5 before 7, 6 before 7, 7 before 8, 7 before 9, 8 before 9, and 3 before all
+  pub in-order :
+      map (told fresh) (push (eventFor 2 4_611_686_018_427_387_904 0 2) ∷ push (eventFor 10 4_611_686_018_427_387_904 0 0) ∷ sim-network-stack 5 (eventFor 0 5 2_000_000_000_001 0) ∷ [])
+      ≡ refused 5 0 ∷ refused 6 0 ∷ refused 7 0 ∷ []
+  pub in-order-full :
+      (map (told tinyFull) (push (eventFor 1 4_611_686_018_427_387_904 0 0) ∷ sim-network-stack 5 (eventFor 0 5 6 0) ∷ []) ≡ refused 7 0 ∷ refused 8 0 ∷ [])
+      × (told (withEnded tinyFull true) (push (eventFor 2 4_611_686_018_427_387_904 0 0)) ≡ refused 3 0)
   -- 10: block action at 2^62 − 1, duration 1: no round is finished, and the state is marked ended
   pub ten : call lastBlock (pick-next 100) ≡ record { answer = refused 10 0; state = withEnded lastBlock true }
   -- and the round total at 2^62 − 1, even with nothing left
@@ -171,6 +202,8 @@ table-inputs = record {
   four-server = refl;
   five = refl;
   five-machine = refl;
+  five-slots = (refl, refl, refl);
+  five-side = (refl, refl);
   five-kinds = refl;
   five-step = refl;
   five-cancel = refl;
@@ -186,7 +219,12 @@ table-inputs = record {
   seven-step-delay = refl;
   eight = refl;
   eight-pushed = refl;
+  eight-others = (refl, refl);
   nine = (refl, refl);
+  nine-slots = (refl, refl, refl);
+  nine-step = (refl, refl);
+  in-order = refl;
+  in-order-full = (refl, refl);
   ten = refl;
   ten-total = (refl, refl);
   ignored = (refl, refl);
