@@ -72,17 +72,17 @@ module _ (h rs : List ℕ) (n : ℕ) (b : Bool) (k : ℕ) (lo : 1 ≤ n) (hi : n
 
     -- its head's moment, with the length added, and its rank
     pub key-some :
-        (q w c : ℕ) (t : Moment) → q ≡ word rs p 1 → t .0 ≡ q + plus → w ≡ word rs p 3 → c ≡ kindField w
+        (q w v c : ℕ) (t : Moment) → q ≡ word rs p 1 → t .0 ≡ q + plus → w ≡ word rs p 3 → v ≡ kindField w → c ≡ v
         → KeyOf (sideHeld h rs b) (record { chain = n; moment = t; rank = c }) (chainHead n (sideHeld h rs b))
     unfolding foundOf headFrom Stands Tells recAt
-    key-some q w c t eq et ew ec = record { high = hi; is = refl; tells = subst (Tells (record { chain = n; moment = t; rank = c })) (there .is ∙ named) (omega arith, refl, ranked) }
+    key-some q w v c t eq et ew ev ec = record { high = hi; is = refl; tells = subst (Tells (record { chain = n; moment = t; rank = c })) (there .is ∙ named) (omega arith, refl, ranked) }
       where
         there : Peeked h rs b (At (record { chain = n; place = p; event = readEvent b (recAt rs p); moment = t })) (headAs (chainAt n) plus (queue (sideHeld h rs b .queues) (chainAt n)))
         there =
             first-there h rs n b k lo hi ek g m em ne p (readEvent b (recAt rs p)) t plus eh refl (et ∙ ap (λ i. i + plus) eq) (omega (arith, added-small h rs b n g))
 
         ranked : c ≡ rank (headFrom (record { chain = n; place = p; event = readEvent b (recAt rs p); moment = t }) .event .kind)
-        ranked = ec ∙ ap kindField ew ∙ sym (rank-kind (kindField (word rs p 3)) (omega (arith, there .stands .kind)))
+        ranked = ec ∙ ev ∙ ap kindField ew ∙ sym (rank-kind (kindField (word rs p 3)) (omega (arith, there .stands .kind)))
 
 -- ---- what two keys tell of their heads
 

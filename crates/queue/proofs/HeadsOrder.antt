@@ -32,13 +32,16 @@ module _ (a b : Head) (r : Bool) (ka : a .event .kind .0 ≤ 9) (kb : b .event .
   ranked : (x y : ℕ) → before x (a .event .kind .0) y (b .event .kind .0) ≡ before x (rank (kindAt (a .event .kind .0))) y (rank (kindAt (b .event .kind .0)))
   ranked x y = ap₂ (λ i j. before x i y j) (sym (rank-kind (a .event .kind .0) (omega arith))) (sym (rank-kind (b .event .kind .0) (omega arith)))
 
-  pub by-moment : r ≡ before (a .moment .0) (a .event .kind .0) (b .moment .0) (b .event .kind .0) → r ≡ byMoment (headFrom a) (headFrom b)
+  pub by-moment :
+      (x y : ℕ) → x ≡ a .event .kind .0 → y ≡ b .event .kind .0 → r ≡ before (a .moment .0) x (b .moment .0) y → r ≡ byMoment (headFrom a) (headFrom b)
   unfolding headFrom
-  by-moment e = e ∙ ranked (a .moment .0) (b .moment .0)
+  by-moment x y ex ey e = e ∙ (λ d. before (a .moment .0) (ex d) (b .moment .0) (ey d)) ∙ ranked (a .moment .0) (b .moment .0)
 
-  pub by-raw : r ≡ before (a .event .moment .0) (a .event .kind .0) (b .event .moment .0) (b .event .kind .0) → r ≡ byRawMoment (headFrom a) (headFrom b)
+  pub by-raw :
+      (x y : ℕ) → x ≡ a .event .kind .0 → y ≡ b .event .kind .0 → r ≡ before (a .event .moment .0) x (b .event .moment .0) y
+      → r ≡ byRawMoment (headFrom a) (headFrom b)
   unfolding headFrom
-  by-raw e = e ∙ ranked (a .event .moment .0) (b .event .moment .0)
+  by-raw x y ex ey e = e ∙ (λ d. before (a .event .moment .0) (ex d) (b .event .moment .0) (ey d)) ∙ ranked (a .event .moment .0) (b .event .moment .0)
 
 -- ---- the first of two
 

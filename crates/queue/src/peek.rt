@@ -12,6 +12,7 @@ ghost use Rattle.layout.specs.Layout.{stateFrom};
 ghost use Rattle.queue.specs.Heads.{chainAt, headFrom, sideHeld, Known, Peeked, PeekedBoth, Chosen};
 ghost use Rattle.queue.specs.Heads.{addedTo, chainHead, KeyOf, FirstKey, SecondSooner};
 use crate::header;
+use event::Kind;
 use event::SimEvent;
 use moment::Length;
 use moment::Moment;
@@ -97,7 +98,9 @@ fn earlier(a: Head, b: Head) -> bool
     requires { ⌜ a .event .kind .0 ≤ 9 ⌝ ∗ ⌜ b .event .kind .0 ≤ 9 ⌝ }
     ensures { λ r. ⌜ r ≡ byMoment (headFrom a) (headFrom b) ⌝ }
 {
-    before(a.moment.0, a.event.kind.0, b.moment.0, b.event.kind.0)
+    let x = a.event.kind.rank();
+    let y = b.event.kind.rank();
+    before(a.moment.0, x, b.moment.0, y)
 }
 
 // By the moment as it was queued, then rank.
@@ -105,12 +108,9 @@ fn earlier_raw(a: Head, b: Head) -> bool
     requires { ⌜ a .event .kind .0 ≤ 9 ⌝ ∗ ⌜ b .event .kind .0 ≤ 9 ⌝ }
     ensures { λ r. ⌜ r ≡ byRawMoment (headFrom a) (headFrom b) ⌝ }
 {
-    before(
-        a.event.moment.0,
-        a.event.kind.0,
-        b.event.moment.0,
-        b.event.kind.0,
-    )
+    let x = a.event.kind.rank();
+    let y = b.event.kind.rank();
+    before(a.event.moment.0, x, b.event.moment.0, y)
 }
 
 // The first of two heads, unless the second is strictly earlier.
@@ -175,11 +175,11 @@ fn key_of(head: &[u64], rest: &[u64], chain: u64, client: bool, plus: Length) ->
     let place = header::first(head, k);
     let queued = Moment(words::get(rest, place, 1));
     let moment = queued.plus(plus);
-    let tag = words::get(rest, place, 3);
+    let kind = Kind(tag::kind(words::get(rest, place, 3)));
     Key {
         chain,
         moment,
-        rank: tag::kind(tag),
+        rank: kind.rank(),
     }
 }
 

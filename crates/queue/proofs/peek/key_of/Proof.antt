@@ -30,6 +30,9 @@ get-requires-2 c κs = (search head-within, omega arith)
 kind-requires : tie.Need-kind-requires
 kind-requires c κs = search needs
 
+rank-requires : tie.Need-rank-requires
+rank-requires c κs = search needs
+
 returns-2 : tie.Need-returns-2
 returns-2 c = search key-some
 
@@ -45,4 +48,5 @@ key-of-spec =
     plus-requires
     get-requires-2
     kind-requires
+    rank-requires
     returns-2)
