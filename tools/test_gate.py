@@ -9,6 +9,7 @@ import os, pathlib, re, shutil, subprocess, sys, tempfile
 
 REPO = pathlib.Path(__file__).resolve().parent.parent
 SOURCE = pathlib.Path(os.environ.get("MAYBENOT_SRC", REPO.parent / "shared/docs/src"))
+DOCUMENT = pathlib.Path(os.environ.get("DOCUMENT_01", REPO.parent / "shared/docs/01-scope.md"))
 RT = shutil.which("rt")
 TARGET = "bin rlib stamp log runs rust staticlib must-fail".split()
 CLOSING = re.compile(r"^\d+ passed, 0 failed$", re.M)
@@ -46,7 +47,7 @@ class Trial:
 
     def __init__(self, work):
         self.work, self.repo = work, work / "repo"
-        self.env = dict(os.environ, MAYBENOT_SRC=str(SOURCE), PATH=f"{work}/bin:{os.environ['PATH']}")
+        self.env = dict(os.environ, MAYBENOT_SRC=str(SOURCE), DOCUMENT_01=str(DOCUMENT), PATH=f"{work}/bin:{os.environ['PATH']}")
 
     def __truediv__(self, file):
         return self.repo / file
@@ -114,6 +115,7 @@ TRIALS = [
     ("a misspelt function", RED, "it expects", lambda t: t.edit(GROUP, "expects: records::follows", "expects: records::folows")),
     ("a doubled function", RED, "expects records::chain_ok too", lambda t: t.edit(GROUP, "expects: records::follows", "expects: records::chain_ok")),
     ("a missing function", RED, "no line `expects:`", lambda t: t.edit(GROUP, "expects: records::follows\n", "")),
+    ("a quote that stands nowhere", RED, "or in docs/: failed", lambda t: t.edit("crates/rules/specs/Basics.antt", "is later than all", "is later than none")),
     ("a crate that is not proved", RED, "1 passed, 1 failed", lambda t: t.env.update(RT_CI="fails")),
     ("rt ci dies after its count", RED, "", lambda t: t.env.update(RT_CI="dies")),
     ("rt ci says nothing", RED, "not that of its count", lambda t: t.env.update(RT_CI="silent")),
@@ -129,6 +131,7 @@ TRIALS = [
     ("no cargo", GREEN, "not compared with the Rust: runs/build: no cargo", lambda t: t.without("cargo")),
     ("no gcc", GREEN, "not tested from C and Rust: bindings: gcc is not there", lambda t: t.without("gcc")),
     ("no source", GREEN, "not compared with the Rust: runs/build: no source", lambda t: t.env.update(MAYBENOT_SRC=str(t.work / "none"))),
+    ("no document 01", GREEN, "quotes not held to document 01", lambda t: t.env.update(DOCUMENT_01=str(t.work / "none"))),
     ("no python3", RED, "no python3", lambda t: t.without("python3")),
 ]
 
