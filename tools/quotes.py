@@ -14,10 +14,10 @@ def comments(path):
     """(line, text) of each run of comment lines."""
     run, start = [], 0
     for number, line in enumerate(open(path, encoding="utf-8").read().split("\n") + [""], 1):
-        said = re.match(r"\s*(?:--|//)\s?(.*)", line)
-        if said and not said[1].startswith("----"):
+        said = re.match(r"\s*--[\s-]*(.*)", line)
+        if said:
             start = start if run else number
-            run.append(said[1].removeprefix("-- "))
+            run.append(said[1])
         elif run:
             yield start, " ".join(run)
             run = []
