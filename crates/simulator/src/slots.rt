@@ -4,6 +4,7 @@ ghost use Prim.Native.Nat.{_+_, _*_, _<_, _≤_};
 ghost use lib.ListN.{length, getD};
 ghost use Rattle.rules.specs.Arguments.{set-action, set-timer, clear-action, clear-timer};
 ghost use Rattle.event.specs.HandedIn.{actionIn, sideOf};
+ghost use Rattle.layout.specs.Accepted.{Accepted};
 ghost use Rattle.layout.specs.Header.{Limited};
 ghost use Rattle.queue_event.specs.Tag.{bit as bitOf};
 ghost use Rattle.layout.specs.Changes.{sideNo};
@@ -109,9 +110,10 @@ fn action_number(head: &[u64], client: bool, machine: u64, a: ScheduledAction) -
 }
 
 fn timer_refusal(block: &[u64], client: bool, machine: u64, moment: Moment) -> u64
+    requires { ⌜ Accepted (now block) ⌝ }
     ensures { λ n. ⌜ Numbered (now (block .entry)) (set-timer (slotIn client machine) (moment .0)) n ⌝ }
 {
-    let n = admit::admit(block);
+    let n = admit::ended(block);
     if n != 0 {
         return n;
     }
@@ -119,9 +121,10 @@ fn timer_refusal(block: &[u64], client: bool, machine: u64, moment: Moment) -> u
 }
 
 fn action_refusal(block: &[u64], client: bool, machine: u64, a: ScheduledAction) -> u64
+    requires { ⌜ Accepted (now block) ⌝ }
     ensures { λ n. ⌜ Numbered (now (block .entry)) (set-action (slotIn client machine) (actionIn a)) n ⌝ }
 {
-    let n = admit::admit(block);
+    let n = admit::ended(block);
     if n != 0 {
         return n;
     }
@@ -130,18 +133,20 @@ fn action_refusal(block: &[u64], client: bool, machine: u64, a: ScheduledAction)
 
 // The refusal of clearing, a timer and an action alike.
 fn clear_refusal(block: &[u64], client: bool, machine: u64) -> u64
+    requires { ⌜ Accepted (now block) ⌝ }
     ensures { λ n. ⌜ Numbered (now (block .entry)) (clear-timer (slotIn client machine)) n ⌝ }
     ensures { λ n. ⌜ Numbered (now (block .entry)) (clear-action (slotIn client machine)) n ⌝ }
 {
-    let n = admit::admit(block);
+    let n = admit::ended(block);
     if n != 0 {
         return n;
     }
     slot_number(&block[0..256], client, machine)
 }
 
-// A timer is set, whatever the slot holds.
-pub fn set_timer(block: &mut [u64], client: bool, machine: u64, moment: Moment) -> Answer
+// A timer is set in accepted words, whatever the slot holds.
+pub fn set_timer_on(block: &mut [u64], client: bool, machine: u64, moment: Moment) -> Answer
+    requires { ⌜ Accepted (now block) ⌝ }
     ensures { λ a. ⌜ Outcome (now (block .entry)) (set-timer (slotIn client machine) (moment .0)) (answerOf a) (now (block .exit)) ⌝ }
 {
     let n = timer_refusal(block, client, machine, moment);
@@ -156,8 +161,24 @@ pub fn set_timer(block: &mut [u64], client: bool, machine: u64, moment: Moment) 
     Answer::Done
 }
 
-// A timer is cleared; an empty slot stays as it is.
-pub fn clear_timer(block: &mut [u64], client: bool, machine: u64) -> Answer
+// A timer is set.
+pub fn set_timer(block: &mut [u64], client: bool, machine: u64, moment: Moment) -> Answer
+    ensures { λ a. ⌜ Outcome (now (block .entry)) (set-timer (slotIn client machine) (moment .0)) (answerOf a) (now (block .exit)) ⌝ }
+{
+    let mut hints = [0u64; 12];
+    let n = admit::lent(block, &mut hints);
+    if n != 0 {
+        return Answer::Refused(Refusal {
+            number: n,
+            rounds: 0,
+        });
+    }
+    set_timer_on(block, client, machine, moment)
+}
+
+// A timer is cleared in accepted words; an empty slot stays as it is.
+pub fn clear_timer_on(block: &mut [u64], client: bool, machine: u64) -> Answer
+    requires { ⌜ Accepted (now block) ⌝ }
     ensures { λ a. ⌜ Outcome (now (block .entry)) (clear-timer (slotIn client machine)) (answerOf a) (now (block .exit)) ⌝ }
 {
     let n = clear_refusal(block, client, machine);
@@ -170,6 +191,21 @@ pub fn clear_timer(block: &mut [u64], client: bool, machine: u64) -> Answer
     let j = slot(client, machine);
     block[64 + j] = 0;
     Answer::Done
+}
+
+// A timer is cleared.
+pub fn clear_timer(block: &mut [u64], client: bool, machine: u64) -> Answer
+    ensures { λ a. ⌜ Outcome (now (block .entry)) (clear-timer (slotIn client machine)) (answerOf a) (now (block .exit)) ⌝ }
+{
+    let mut hints = [0u64; 12];
+    let n = admit::lent(block, &mut hints);
+    if n != 0 {
+        return Answer::Refused(Refusal {
+            number: n,
+            rounds: 0,
+        });
+    }
+    clear_timer_on(block, client, machine)
 }
 
 // The three words of an action's slot.
@@ -196,8 +232,9 @@ fn action_word(a: ScheduledAction) -> u64
     a.kind.0 + 4 * bit(a.bypass) + 8 * bit(a.replace)
 }
 
-// An action is set, whatever the slot holds.
-pub fn set_action(block: &mut [u64], client: bool, machine: u64, a: ScheduledAction) -> Answer
+// An action is set in accepted words, whatever the slot holds.
+pub fn set_action_on(block: &mut [u64], client: bool, machine: u64, a: ScheduledAction) -> Answer
+    requires { ⌜ Accepted (now block) ⌝ }
     ensures { λ r. ⌜ Outcome (now (block .entry)) (set-action (slotIn client machine) (actionIn a)) (answerOf r) (now (block .exit)) ⌝ }
 {
     let n = action_refusal(block, client, machine, a);
@@ -214,8 +251,24 @@ pub fn set_action(block: &mut [u64], client: bool, machine: u64, a: ScheduledAct
     Answer::Done
 }
 
-// An action is cleared; an empty slot stays as it is.
-pub fn clear_action(block: &mut [u64], client: bool, machine: u64) -> Answer
+// An action is set.
+pub fn set_action(block: &mut [u64], client: bool, machine: u64, a: ScheduledAction) -> Answer
+    ensures { λ r. ⌜ Outcome (now (block .entry)) (set-action (slotIn client machine) (actionIn a)) (answerOf r) (now (block .exit)) ⌝ }
+{
+    let mut hints = [0u64; 12];
+    let n = admit::lent(block, &mut hints);
+    if n != 0 {
+        return Answer::Refused(Refusal {
+            number: n,
+            rounds: 0,
+        });
+    }
+    set_action_on(block, client, machine, a)
+}
+
+// An action is cleared in accepted words; an empty slot stays as it is.
+pub fn clear_action_on(block: &mut [u64], client: bool, machine: u64) -> Answer
+    requires { ⌜ Accepted (now block) ⌝ }
     ensures { λ a. ⌜ Outcome (now (block .entry)) (clear-action (slotIn client machine)) (answerOf a) (now (block .exit)) ⌝ }
 {
     let n = clear_refusal(block, client, machine);
@@ -228,4 +281,19 @@ pub fn clear_action(block: &mut [u64], client: bool, machine: u64) -> Answer
     let j = slot(client, machine);
     store_action(block, j, 0, Moment(0), Length(0));
     Answer::Done
+}
+
+// An action is cleared.
+pub fn clear_action(block: &mut [u64], client: bool, machine: u64) -> Answer
+    ensures { λ a. ⌜ Outcome (now (block .entry)) (clear-action (slotIn client machine)) (answerOf a) (now (block .exit)) ⌝ }
+{
+    let mut hints = [0u64; 12];
+    let n = admit::lent(block, &mut hints);
+    if n != 0 {
+        return Answer::Refused(Refusal {
+            number: n,
+            rounds: 0,
+        });
+    }
+    clear_action_on(block, client, machine)
 }

@@ -8,8 +8,8 @@ use Rattle.simulator.proofs.Admitting.{admit-n, admitted-long, admitted
 use Rattle.simulator.proofs.slots.action_refusal.Statement.{statement}
 use Rattle.simulator.proofs.slots.action_refusal.Tie as tie
 
-admit-requires : tie.Need-admit-requires
-admit-requires c κs = search needs
+ended-requires : tie.Need-ended-requires
+ended-requires c κs = search needs
 
 returns : tie.Need-returns
 returns c = search admit-n
@@ -21,19 +21,19 @@ part-action-number-start : tie.Need-part-action-number-start
 part-action-number-start c = search needs
 
 part-action-number-end : tie.Need-part-action-number-end
-part-action-number-end c = omega (arith, admitted-long (c .before .before .before .args .block .now) _ (c .before .admit .ensures) (c .if1 .left))
+part-action-number-end c = omega (arith, admitted-long (c .before .before .before .args .block .now) _ (c .before .ended .ensures) (c .if1 .left))
 
 action-number-requires : tie.Need-action-number-requires
-action-number-requires c κs = (admitted-wide (c .before .before .before .before .args .block .now) _ (c .before .before .admit .ensures) (c .before .if1 .left), (admitted-limits (c .before .before .before .before .args .block .now) _ (c .before .before .admit .ensures) (c .before .if1 .left), admitted-going (c .before .before .before .before .args .block .now) _ (c .before .before .admit .ensures) (c .before .if1 .left)))
+action-number-requires c κs = (admitted-wide (c .before .before .before .before .args .block .now) _ (c .before .before .ended .ensures) (c .before .if1 .left), (admitted-limits (c .before .before .before .before .args .block .now) _ (c .before .before .ended .ensures) (c .before .if1 .left), admitted-going (c .before .before .before .before .args .block .now) _ (c .before .before .ended .ensures) (c .before .if1 .left)))
 
 returns-2 : tie.Need-returns-2
-returns-2 c = admitted-number (c .before .before .before .before .before .args .block .now) _ (c .before .before .before .admit .ensures) (c .before .before .if1 .left) (set-action (slotIn (c .before .before .before .before .before .args .client) (c .before .before .before .before .before .args .machine)) (actionIn (c .before .before .before .before .before .args .a))) _ (c .action-number .ensures)
+returns-2 c = admitted-number (c .before .before .before .before .before .args .block .now) _ (c .before .before .before .ended .ensures) (c .before .before .if1 .left) (set-action (slotIn (c .before .before .before .before .before .args .client) (c .before .before .before .before .before .args .machine)) (actionIn (c .before .before .before .before .before .args .a))) _ (c .action-number .ensures)
 
 pub action-refusal-spec : {M : Type 1} → statement M
 action-refusal-spec =
     tie.close
     (tie.spec
-    admit-requires
+    ended-requires
     returns
     sub-action-number
     part-action-number-start

@@ -1,52 +1,27 @@
 -- `simulator::slots::set_timer` meets its contract. Assumes nothing.
-use Rattle.simulator.proofs.Working.{outcome-n}
-use Rattle.simulator.proofs.SlotOutcomes.{timer-small, timer-fits, timer-long, timer-done}
-use native.Mathlib.Omega.{arith}
 use borrow.Author.Needs.{needs}
+use Rattle.simulator.proofs.Admitting.{lent-accepted}
+use Rattle.simulator.proofs.Working.{lent-outcome}
 use Rattle.simulator.proofs.slots.set_timer.Statement.{statement}
 use Rattle.simulator.proofs.slots.set_timer.Tie as tie
 
-timer-refusal-requires : tie.Need-timer-refusal-requires
-timer-refusal-requires c κs = search needs
+lent-requires : tie.Need-lent-requires
+lent-requires c κs = search needs
 
 same-length : tie.Need-same-length
 same-length c = search needs
 
 returns : tie.Need-returns
-returns c = search outcome-n
+returns c = search lent-outcome
 
-slot-requires : tie.Need-slot-requires
-slot-requires c κs = search timer-small
-
-stored-requires : tie.Need-stored-requires
-stored-requires c κs = search timer-fits
-
-add-block : tie.Need-add-block
-add-block c = search needs
-
-mul-block : tie.Need-mul-block
-mul-block c = search needs
-
-slice-write-block : tie.Need-slice-write-block
-slice-write-block c = omega (arith, c .before .slot .ensures .1, timer-long (c .before .before .before .before .before .before .args .block .now) (c .before .before .before .before .before .before .args .client) (c .before .before .before .before .before .before .args .machine) (c .before .before .before .before .before .before .args .moment .0) _ (c .before .before .before .timer-refusal .ensures) (c .before .before .if1 .left))
+set-timer-on-requires : tie.Need-set-timer-on-requires
+set-timer-on-requires c κs = search lent-accepted
 
 same-length-2 : tie.Need-same-length-2
 same-length-2 c = search needs
 
 returns-2 : tie.Need-returns-2
-returns-2 c = search timer-done
+returns-2 c = search needs
 
 pub set-timer-spec : {M : Type 1} → statement M
-set-timer-spec =
-    tie.close
-    (tie.spec
-    timer-refusal-requires
-    same-length
-    returns
-    slot-requires
-    stored-requires
-    add-block
-    mul-block
-    slice-write-block
-    same-length-2
-    returns-2)
+set-timer-spec = tie.close (tie.spec lent-requires same-length returns set-timer-on-requires same-length-2 returns-2)

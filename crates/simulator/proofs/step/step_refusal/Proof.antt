@@ -7,8 +7,8 @@ use borrow.Author.Needs.{needs}
 use Rattle.simulator.proofs.step.step_refusal.Statement.{statement}
 use Rattle.simulator.proofs.step.step_refusal.Tie as tie
 
-admit-requires : tie.Need-admit-requires
-admit-requires c κs = search needs
+ended-requires : tie.Need-ended-requires
+ended-requires c κs = search needs
 
 returns : tie.Need-returns
 returns c = search upto-n
@@ -20,19 +20,19 @@ part-step-number-start : tie.Need-part-step-number-start
 part-step-number-start c = search needs
 
 part-step-number-end : tie.Need-part-step-number-end
-part-step-number-end c = omega (arith, admitted-long (c .before .before .before .args .block .now) _ (c .before .admit .ensures) (c .if1 .left))
+part-step-number-end c = omega (arith, admitted-long (c .before .before .before .args .block .now) _ (c .before .ended .ensures) (c .if1 .left))
 
 step-number-requires : tie.Need-step-number-requires
 step-number-requires c κs = search needs
 
 returns-2 : tie.Need-returns-2
-returns-2 c = upto-rows (c .before .before .before .before .before .args .block .now) (c .before .before .before .before .before .args .time .0) (eventIn (c .before .before .before .before .before .args .e)) _ _ (c .before .before .before .admit .ensures) (c .before .before .if1 .left) (c .step-number .ensures)
+returns-2 c = upto-rows (c .before .before .before .before .before .args .block .now) (c .before .before .before .before .before .args .time .0) (eventIn (c .before .before .before .before .before .args .e)) _ _ (c .before .before .before .ended .ensures) (c .before .before .if1 .left) (c .step-number .ensures)
 
 pub step-refusal-spec : {M : Type 1} → statement M
 step-refusal-spec =
     tie.close
     (tie.spec
-    admit-requires
+    ended-requires
     returns
     sub-step-number
     part-step-number-start
