@@ -1,13 +1,17 @@
 """The places of a function's proof, read off what `rt dev NAME --generated` writes: what answer.py and paths.py go by."""
-import glob, re, shutil, subprocess, tempfile
+import glob, os, re, shutil, subprocess, tempfile
 
 
 def places(name, function):
     """before: the place before a place; thing: what a place binds; own: the facts in that; need: the place that each need begins from."""
-    folder = tempfile.mkdtemp()
-    subprocess.run(['rt', 'dev', name, '--generated', folder], capture_output=True)
+    # GENERATED=FOLDER: a folder that `rt dev NAME --generated FOLDER` has written since the source last changed
+    given = os.environ.get('GENERATED')
+    folder = given or tempfile.mkdtemp()
+    if not given:
+        subprocess.run(['rt', 'dev', name, '--generated', folder], capture_output=True)
     text = open(glob.glob(f'{folder}/*proofs/proofs/{function}/Lts.antt')[0]).read()
-    shutil.rmtree(folder)
+    if not given:
+        shutil.rmtree(folder)
     before, thing, own, need, place, last = {}, {}, {}, {}, None, None
     for line in text.split('\n'):
         m = re.match(r'\s*pub record (\S+) : Type 0 where', line)

@@ -1,6 +1,6 @@
 -- `maybenot_core::maybenot_core_clear_action` meets its contract. Assumes nothing.
 use borrow.Author.Needs.{needs}
-use Rattle.maybenot_core.proofs.Telling.{told, no-action-call}
+use Rattle.calls.proofs.Telling.{told, no-action-call}
 use Rattle.maybenot_core.proofs.maybenot_core_clear_action.Statement.{statement}
 use Rattle.maybenot_core.proofs.maybenot_core_clear_action.Tie as tie
 

@@ -1,6 +1,6 @@
 -- `maybenot_core::maybenot_core_clear_timer` meets its contract. Assumes nothing.
 use borrow.Author.Needs.{needs}
-use Rattle.maybenot_core.proofs.Telling.{told, no-timer-call}
+use Rattle.calls.proofs.Telling.{told, no-timer-call}
 use Rattle.maybenot_core.proofs.maybenot_core_clear_timer.Statement.{statement}
 use Rattle.maybenot_core.proofs.maybenot_core_clear_timer.Tie as tie
 

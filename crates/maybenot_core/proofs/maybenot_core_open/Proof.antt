@@ -1,7 +1,7 @@
 -- `maybenot_core::maybenot_core_open` meets its contract. Assumes nothing.
 use borrow.Author.Needs.{needs}
-use Rattle.maybenot_core.specs.Told.{sideOpening}
-use Rattle.maybenot_core.proofs.Telling.{open-told}
+use Rattle.maybenot_core.specs.Opening.{sideOpening}
+use Rattle.maybenot_core.proofs.Opening.{open-told}
 use Rattle.maybenot_core.proofs.maybenot_core_open.Statement.{statement}
 use Rattle.maybenot_core.proofs.maybenot_core_open.Tie as tie
 

@@ -2,8 +2,8 @@
 use mathlib.Core.Path.{refl}
 use borrow.Author.Needs.{needs}
 use Rattle.event.specs.Answers.{choiceOf}
-use Rattle.maybenot_core.specs.Answers.{choiceWords}
-use Rattle.maybenot_core.proofs.Writing.{answered}
+use Rattle.calls.specs.Answers.{choiceWords}
+use Rattle.calls.proofs.Writing.{answered}
 use Rattle.maybenot_core.proofs.maybenot_core_pick_next.Statement.{statement}
 use Rattle.maybenot_core.proofs.maybenot_core_pick_next.Tie as tie
 

@@ -2,7 +2,7 @@
 use mathlib.Core.Path.{ap}
 use borrow.Author.Needs.{needs}
 use Rattle.rules.specs.Arguments.{push}
-use Rattle.maybenot_core.proofs.Telling.{told}
+use Rattle.calls.proofs.Telling.{told}
 use Rattle.maybenot_core.proofs.maybenot_core_push_sim.Statement.{statement}
 use Rattle.maybenot_core.proofs.maybenot_core_push_sim.Tie as tie
 

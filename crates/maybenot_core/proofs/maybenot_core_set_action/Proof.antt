@@ -1,6 +1,6 @@
 -- `maybenot_core::maybenot_core_set_action` meets its contract. Assumes nothing.
 use borrow.Author.Needs.{needs}
-use Rattle.maybenot_core.proofs.Telling.{told, action-call}
+use Rattle.calls.proofs.Telling.{told, action-call}
 use Rattle.maybenot_core.proofs.maybenot_core_set_action.Statement.{statement}
 use Rattle.maybenot_core.proofs.maybenot_core_set_action.Tie as tie
 

@@ -3,8 +3,8 @@ use mathlib.Core.Path.{ap}
 use borrow.Author.Needs.{needs}
 use Rattle.rules.specs.Arguments.{sim-network-stack}
 use Rattle.event.specs.Answers.{stepOf}
-use Rattle.maybenot_core.specs.Answers.{stepWords}
-use Rattle.maybenot_core.proofs.Writing.{answered}
+use Rattle.calls.specs.Answers.{stepWords}
+use Rattle.calls.proofs.Writing.{answered}
 use Rattle.maybenot_core.proofs.maybenot_core_sim_network_stack.Statement.{statement}
 use Rattle.maybenot_core.proofs.maybenot_core_sim_network_stack.Tie as tie
 

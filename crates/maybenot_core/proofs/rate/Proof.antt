@@ -1,5 +1,5 @@
 -- `maybenot_core::rate` meets its contract. Assumes nothing.
-use Rattle.maybenot_core.proofs.Telling.{rate-none, rate-some}
+use Rattle.maybenot_core.proofs.Opening.{rate-none, rate-some}
 use Rattle.maybenot_core.proofs.rate.Statement.{statement}
 use Rattle.maybenot_core.proofs.rate.Tie as tie
 
