@@ -8,6 +8,8 @@ ghost use Rattle.layout.specs.Accepted.{SizeOk, Good, Accepted};
 pub mod header;
 pub mod records;
 
+use header::Slots;
+
 // Whether n is 256 + 4R, R from 1 to 65,535.
 pub fn size_ok(n: usize) -> bool
     ensures { λ r. ⌜ Decides (SizeOk n) r ⌝ }
@@ -29,9 +31,10 @@ fn good(head: &[u64], rest: &[u64]) -> bool
     if !header::limited(head) {
         return false;
     }
-    if !header::slots_ok(head) {
+    let slots = header::test_slots(head);
+    let Slots::Reserve(reserve) = slots else {
         return false;
-    }
+    };
     if !records::chains_ok(head, rest) {
         return false;
     }
@@ -39,7 +42,7 @@ fn good(head: &[u64], rest: &[u64]) -> bool
     if records::counted(head) != last {
         return false;
     }
-    if last - head[25] + header::reserved(head) > last {
+    if last - head[25] + reserve > last {
         return false;
     }
     true
