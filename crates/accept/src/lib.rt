@@ -24,7 +24,7 @@ pub fn size_ok(n: usize) -> bool
 }
 
 // Whether a header and the records after it are in order, each for itself and together.
-fn good(head: &[u64], rest: &[u64]) -> bool
+fn good(head: &[u64], rest: &[u64], hints: &mut [u64; 12]) -> bool
     requires { ⌜ (length (now head) ≡ 256) × (length (now rest) ≤ 262140) ⌝ }
     ensures { λ r. ⌜ Decides (Good (now (head .entry)) (now (rest .entry))) r ⌝ }
 {
@@ -35,7 +35,7 @@ fn good(head: &[u64], rest: &[u64]) -> bool
     let Slots::Reserve(reserve) = slots else {
         return false;
     };
-    if !records::chains_ok(head, rest) {
+    if !records::chains_ok(head, rest, hints) {
         return false;
     }
     let last = (rest.len() / 4) as u64;
@@ -48,12 +48,21 @@ fn good(head: &[u64], rest: &[u64]) -> bool
     true
 }
 
-// Whether the lent words are an accepted state.
-pub fn accepted(block: &[u64]) -> bool
+// Whether the lent words are an accepted state. Where they are, the walk of the chains leaves the last record of each in `hints`, 0 for an empty one. It is a
+// hint and nothing is promised of it: the push that follows then need not walk the chain again.
+pub fn accepted_with(block: &[u64], hints: &mut [u64; 12]) -> bool
     ensures { λ r. ⌜ Decides (Accepted (now (block .entry))) r ⌝ }
 {
     if !size_ok(block.len()) {
         return false;
     }
-    good(&block[..256], &block[256..])
+    good(&block[..256], &block[256..], hints)
+}
+
+// Whether the lent words are an accepted state.
+pub fn accepted(block: &[u64]) -> bool
+    ensures { λ r. ⌜ Decides (Accepted (now (block .entry))) r ⌝ }
+{
+    let mut hints = [0u64; 12];
+    accepted_with(block, &mut hints)
 }

@@ -150,8 +150,16 @@ fn follows(k: u64, last_moment: u64, last_rank: u64, moment: u64, rank: u64) -> 
     last_rank <= rank
 }
 
-// Whether `head` starts a chain of `count` records of number k, in order, of a side with so many machines. Each word is read once.
-fn chain_ok(records: &[u64], k: u64, machines: u64, head: u64, count: u64) -> bool
+// Whether `head` starts a chain of `count` records of number k, in order, of a side with so many machines. Each word is read once. The last record is noted in
+// `hints`, 0 where the chain has none: nothing is promised of it, a caller that uses it tests it.
+fn chain_ok(
+    records: &[u64],
+    hints: &mut [u64; 12],
+    k: u64,
+    machines: u64,
+    head: u64,
+    count: u64,
+) -> bool
     requires { ⌜ (k < chainCount) × (length (now records) ≤ 262140) ⌝ }
     ensures { λ x. ⌜ Decides (Chain (now (records .entry)) k machines count 0 0 head) x ⌝ }
 {
@@ -160,6 +168,7 @@ fn chain_ok(records: &[u64], k: u64, machines: u64, head: u64, count: u64) -> bo
     let mut left = count;
     let mut moment: u64 = 0;
     let mut rank: u64 = 0;
+    let mut tail: u64 = 0;
     while left > 0 {
         if at == 0 {
             return false;
@@ -178,14 +187,16 @@ fn chain_ok(records: &[u64], k: u64, machines: u64, head: u64, count: u64) -> bo
         }
         moment = m;
         rank = r;
+        tail = at;
         at = words::get(records, at, 0);
         left -= 1;
     }
+    hints[k as usize] = tail;
     at == 0
 }
 
-// Whether each chain is in order. A count is held against the number of records before its chain is walked.
-pub fn chains_ok(header: &[u64], records: &[u64]) -> bool
+// Whether each chain is in order. A count is held against the number of records before its chain is walked. The last record of each is noted in `hints`.
+pub fn chains_ok(header: &[u64], records: &[u64], hints: &mut [u64; 12]) -> bool
     requires { ⌜ (length (now header) ≡ 256) × (length (now records) ≤ 262140) ⌝ }
     ensures { λ x. ⌜ Decides (ChainsOk (now (header .entry)) (now (records .entry))) x ⌝ }
 {
@@ -197,7 +208,14 @@ pub fn chains_ok(header: &[u64], records: &[u64]) -> bool
             return false;
         }
         let machines = header[8 + k / 6];
-        if !chain_ok(records, k as u64, machines, header[24 + 2 * k], count) {
+        if !chain_ok(
+            records,
+            hints,
+            k as u64,
+            machines,
+            header[24 + 2 * k],
+            count,
+        ) {
             return false;
         }
         k += 1;

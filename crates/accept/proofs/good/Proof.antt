@@ -46,13 +46,13 @@ sub-if4 : tie.Need-sub-if4
 sub-if4 c = omega (arith, passed (c .before .before .before .before .chains-ok .ensures) (c .before .before .before .if2 .left) 0 (lit< tt) .count)
 
 add-if4 : tie.Need-add-if4
-add-if4 c = omega (arith, right-all _ _ (c .before .before .before .before .before .before .before .before .test-slots .ensures) _ (c .before .before .before .before .before .before .slots .given .1) .2)
+add-if4 c = omega (arith, right-all _ _ (c .before .before .before .before .before .before .before .before .before .test-slots .ensures) _ (c .before .before .before .before .before .before .before .slots .given .1) .2)
 
 returns-5 : tie.Need-returns-5
-returns-5 c = fails (λ p. omega (arith, reserve-words _ _ p, right-all _ _ (c .before .before .before .before .before .before .before .before .before .test-slots .ensures) _ (c .before .before .before .before .before .before .before .slots .given .1) .1))
+returns-5 c = fails (λ p. omega (arith, reserve-words _ _ p, right-all _ _ (c .before .before .before .before .before .before .before .before .before .before .test-slots .ensures) _ (c .before .before .before .before .before .before .before .before .slots .given .1) .1))
 
 returns-6 : tie.Need-returns-6
-returns-6 c = let sum = sym (c .before .before .before .counted .ensures) ∙ (c .before .before .if3 .left) in let found = right-all _ _ (c .before .before .before .before .before .before .before .before .before .test-slots .ensures) _ (c .before .before .before .before .before .before .before .slots .given .1) in holds (record { limits = passed (c .before .before .before .before .before .before .before .before .before .before .before .limited .ensures) (c .before .before .before .before .before .before .before .before .before .before .if1 .left); slots = found .0; chains = passed (c .before .before .before .before .before .chains-ok .ensures) (c .before .before .before .before .if2 .left); counts = sum; reserve = reserve-state _ _ sum (omega (arith, found .1)) })
+returns-6 c = let sum = sym (c .before .before .before .counted .ensures) ∙ (c .before .before .if3 .left) in let found = right-all _ _ (c .before .before .before .before .before .before .before .before .before .before .test-slots .ensures) _ (c .before .before .before .before .before .before .before .before .slots .given .1) in holds (record { limits = passed (c .before .before .before .before .before .before .before .before .before .before .before .before .limited .ensures) (c .before .before .before .before .before .before .before .before .before .before .before .if1 .left); slots = found .0; chains = passed (c .before .before .before .before .before .chains-ok .ensures) (c .before .before .before .before .if2 .left); counts = sum; reserve = reserve-state _ _ sum (omega (arith, found .1)) })
 
 pub good-spec : {M : Type 1} → statement M
 good-spec =
