@@ -7,10 +7,10 @@ use Rattle.accept.proofs.records.chain_ok.Statement.{statement}
 use Rattle.accept.proofs.records.chain_ok.Tie as tie
 
 abbrev Inv-loop : tie.InvT-loop
-Inv-loop records hints₀ k machines head count last at₀ left₀ moment₀ rank₀ tail₀ at left moment rank tail = Rest (Chain records k machines count 0 0 head) (Chain records k machines left moment rank at)
+Inv-loop rest hints₀ k machines head n last at₀ left₀ moment₀ rank₀ tail₀ at left moment rank tail = Rest (Chain rest k machines n 0 0 head) (Chain rest k machines left moment rank at)
 
 abbrev μ-loop : tie.MeasureT-loop
-μ-loop records hints₀ k machines head count last at₀ left₀ moment₀ rank₀ tail₀ at left moment rank tail = left
+μ-loop rest hints₀ k machines head n last at₀ left₀ moment₀ rank₀ tail₀ at left moment rank tail = left
 
 loop-holds : tie.Need-loop-holds Inv-loop μ-loop
 loop-holds c = rest-all
