@@ -1,7 +1,7 @@
 -- Slots that are empty and slots that are in order, some of them and all, and what they keep in reserve. Assumes nothing.
 use Prim.Native.Nat.{ℕ, zero, suc, _+_, _-_, _*_, _≤_, _<_, _/_, _%_}
 use mathlib.Core.Path.{_≡_, refl, sym, ap, subst, _∙_}
-use mathlib.Core.Bool.{Bool, true, false}
+use mathlib.Core.Bool.{Bool, true, false, not}
 use mathlib.Core.List.{List}
 use native.Mathlib.Omega.{arith}
 use native.Mathlib.Decide.{ℕ-discrete}
@@ -10,6 +10,8 @@ use lib.Dec.{ltb}
 use lib.ListN.{getD}
 use borrow.Author.Tests.{ltb-true, ltb-false}
 use Rattle.layout.specs.Header.{Limited, ActionOk, SlotEmpty, SlotOk, SlotsOk, machinesOf, blockOf, timerOf, actionOf, actionMoment, actionDuration, held, slotsRoom, reserved}
+use Rattle.layout.specs.Decides.{Decides}
+use Rattle.layout.proofs.Deciding.{refused, passed}
 use Rattle.layout.proofs.Sums.{slotsRoom-zero, slotsRoom-more}
 use Rattle.accept.specs.declared.header.Slots.{Slots}
 use Rattle.accept.specs.declared.header.Slots.the-variants.{Wrong, Reserve}
@@ -169,25 +171,68 @@ module _ (h : List ℕ) where
 
 -- ---- what a test found, by its answer
 
-module _ (h : List ℕ) (x : Slots) where
-  module _ (a e : ℕ) (p : FoundIn h a e x) where
-    pub wrong-in : x ≡ Wrong → OkIn h a e → ⊥
-    unfolding FoundIn
-    wrong-in q = subst (FoundIn h a e) q p
+module _ (h : List ℕ) (a e : ℕ) (x : Slots) (p : FoundIn h a e x) where
+  wrong-in : x ≡ Wrong → OkIn h a e → ⊥
+  unfolding FoundIn
+  wrong-in q = subst (FoundIn h a e) q p
 
-    pub ok-in : (r : ℕ) → x ≡ Reserve r → OkIn h a e
-    unfolding FoundIn
-    ok-in r q = subst (FoundIn h a e) q p .0
+  pub right-in : (r : ℕ) → x ≡ Reserve r → OkIn h a e × RoomIn h a e r
+  unfolding FoundIn
+  right-in r q = subst (FoundIn h a e) q p
 
-    pub room-in : (r : ℕ) → x ≡ Reserve r → RoomIn h a e r
-    unfolding FoundIn
-    room-in r q = subst (FoundIn h a e) q p .1
+module _ (h : List ℕ) (x : Slots) (p : FoundAll h x) where
+  pub wrong-all : x ≡ Wrong → SlotsOk h → ⊥
+  unfolding FoundAll
+  wrong-all q = subst (FoundAll h) q p
 
-  module _ (p : FoundAll h x) where
-    pub wrong-all : x ≡ Wrong → SlotsOk h → ⊥
+  pub right-all : (r : ℕ) → x ≡ Reserve r → SlotsOk h × (r ≡ reserved h) × (r ≤ 166)
+  unfolding FoundAll
+  right-all r q = subst (FoundAll h) q p
+
+-- ---- the test of all slots: above the client's machine count, above the server's, the client's machines, the server's
+
+module _ (h : List ℕ) (l : Limited h) where
+  pub wrong-past-client : (r : Bool) → Decides (EmptyIn h (getD h 8 0) 16) r → not r ≡ true → FoundAll h Wrong
+  unfolding FoundAll
+  wrong-past-client r d e ok = refused d e (client-past h ok)
+
+  pub wrong-past-server : (r : Bool) → Decides (EmptyIn h (16 + getD h 9 0) 32) r → not r ≡ true → FoundAll h Wrong
+  unfolding FoundAll
+  wrong-past-server r d e ok = refused d e (server-past h ok)
+
+  module _ (x : Slots) where
+    pub wrong-client : FoundIn h 0 (getD h 8 0) x → x ≡ Wrong → FoundAll h Wrong
     unfolding FoundAll
-    wrong-all q = subst (FoundAll h) q p
+    wrong-client p e ok = wrong-in h 0 (getD h 8 0) x p e (λ j _ k. ok j (omega (arith, k, l 8 (omega arith))))
 
-    pub right-all : (r : ℕ) → x ≡ Reserve r → SlotsOk h × (r ≡ reserved h) × (r ≤ 166)
+    pub wrong-server : FoundIn h 16 (16 + getD h 9 0) x → x ≡ Wrong → FoundAll h Wrong
     unfolding FoundAll
-    right-all r q = subst (FoundAll h) q p
+    wrong-server p e ok = wrong-in h 16 (16 + getD h 9 0) x p e (λ j _ k. ok j (omega (arith, k, l 9 (omega arith))))
+
+    module _ (y : Slots) (c s : ℕ) (px : FoundIn h 0 (getD h 8 0) x) (ex : x ≡ Reserve c) (py : FoundIn h 16 (16 + getD h 9 0) y) (ey : y ≡ Reserve s) where
+      pub client-most : c ≤ 80
+      client-most = omega (arith, right-in h 0 (getD h 8 0) x px c ex .1 .most, l 8 (omega arith))
+
+      pub server-most : s ≤ 80
+      server-most = omega (arith, right-in h 16 (16 + getD h 9 0) y py s ey .1 .most, l 9 (omega arith))
+
+      pub found-all :
+          (q r : Bool) → Decides (EmptyIn h (getD h 8 0) 16) q → not q ≡ false → Decides (EmptyIn h (16 + getD h 9 0) 32) r → not r ≡ false
+          → (b : ℕ) → (b ≡ 3 * held (blockOf h 0) + 3 * held (blockOf h 1)) × (b ≤ 6) → FoundAll h (Reserve (b + c + s))
+      unfolding FoundAll
+      found-all q r dq eq dr er b eb = (slots-all h ec es (fx .0) (fy .0), sum .0, sum .1)
+        where
+          ec : EmptyIn h (getD h 8 0) 16
+          ec = passed dq eq
+
+          es : EmptyIn h (16 + getD h 9 0) 32
+          es = passed dr er
+
+          fx : OkIn h 0 (getD h 8 0) × RoomIn h 0 (getD h 8 0) c
+          fx = right-in h 0 (getD h 8 0) x px c ex
+
+          fy : OkIn h 16 (16 + getD h 9 0) × RoomIn h 16 (16 + getD h 9 0) s
+          fy = right-in h 16 (16 + getD h 9 0) y py s ey
+
+          sum : (b + c + s ≡ reserved h) × (b + c + s ≤ 166)
+          sum = reserve-all h l ec es b c s eb (fx .1) (fy .1)

@@ -1,11 +1,10 @@
--- `accept::header::test_slots` meets its contract. Assumes nothing.
 use native.Mathlib.Omega.{arith}
 use borrow.Author.Needs.{needs}
-use Rattle.layout.proofs.Deciding.{refused, passed}
-use Rattle.accept.specs.Slots.{FoundAll}
-use Rattle.accept.proofs.Slots.{client-past, server-past, slots-all, reserve-all, wrong-in, ok-in, room-in}
+use Rattle.accept.proofs.Slots.{wrong-past-client, wrong-past-server, wrong-client, wrong-server, client-most, server-most, found-all}
 use Rattle.accept.proofs.header.test_slots.Statement.{statement}
 use Rattle.accept.proofs.header.test_slots.Tie as tie
+
+-- `accept::header::test_slots` meets its contract. Assumes nothing.
 
 shared-slice-read-client : tie.Need-shared-slice-read-client
 shared-slice-read-client c = search needs
@@ -20,15 +19,13 @@ all-empty-requires : tie.Need-all-empty-requires
 all-empty-requires c κs = omega (arith, c .before .before .before .pre .1 8 (omega arith))
 
 returns : tie.Need-returns
-unfolding FoundAll
-returns c = λ ok. refused (c .before .all-empty .ensures) (c .if1 .taken) (client-past _ ok)
+returns c = search wrong-past-client
 
 all-empty-requires-2 : tie.Need-all-empty-requires-2
 all-empty-requires-2 c κs = omega (arith, c .before .before .before .before .before .pre .1 9 (omega arith))
 
 returns-2 : tie.Need-returns-2
-unfolding FoundAll
-returns-2 c = λ ok. refused (c .before .all-empty2 .ensures) (c .if2 .taken) (server-past _ ok)
+returns-2 c = search wrong-past-server
 
 each-slot-requires : tie.Need-each-slot-requires
 each-slot-requires c κs = omega (arith, c .before .before .before .before .before .before .before .pre .1 8 (omega arith))
@@ -40,8 +37,7 @@ enum-told : tie.Need-enum-told
 enum-told c = search needs
 
 returns-3 : tie.Need-returns-3
-unfolding FoundAll
-returns-3 c = λ ok. wrong-in _ _ _ _ (c .before .before .each-slot .ensures) (c .enum-told .given .1) (λ j _ l. ok j (omega (arith, l, c .before .before .before .before .before .before .before .before .before .before .pre .1 8 (omega arith))))
+returns-3 c = search wrong-client
 
 each-slot-requires-2 : tie.Need-each-slot-requires-2
 each-slot-requires-2 c κs = omega (arith, c .before .before .before .before .before .before .before .before .before .before .before .pre .1 9 (omega arith))
@@ -53,21 +49,19 @@ enum-told-2 : tie.Need-enum-told-2
 enum-told-2 c = search needs
 
 returns-4 : tie.Need-returns-4
-unfolding FoundAll
-returns-4 c = λ ok. wrong-in _ _ _ _ (c .before .before .each-slot2 .ensures) (c .enum-told2 .given .1) (λ j _ l. ok j (omega (arith, l, c .before .before .before .before .before .before .before .before .before .before .before .before .before .before .pre .1 9 (omega arith))))
+returns-4 c = search wrong-server
 
 blocks-room-requires : tie.Need-blocks-room-requires
 blocks-room-requires c κs = search needs
 
 add-t14 : tie.Need-add-t14
-add-t14 c = omega (arith, room-in _ _ _ _ (c .before .before .before .before .before .before .before .before .each-slot .ensures) _ (c .before .before .before .before .before .before .of-client .given .1) .most, c .before .before .before .before .before .before .before .before .before .before .before .before .before .before .before .before .pre .1 8 (omega arith))
+add-t14 c = omega (arith, client-most _ (c .before .before .before .before .before .before .before .before .before .before .before .before .before .before .before .before .pre .1) _ _ _ _ (c .before .before .before .before .before .before .before .before .each-slot .ensures) (c .before .before .before .before .before .before .of-client .given .1) (c .before .before .before .before .each-slot2 .ensures) (c .before .before .of-server .given .1))
 
 add-t15 : tie.Need-add-t15
-add-t15 c = omega (arith, room-in _ _ _ _ (c .before .before .before .before .before .before .before .before .each-slot .ensures) _ (c .before .before .before .before .before .before .of-client .given .1) .most, room-in _ _ _ _ (c .before .before .before .before .each-slot2 .ensures) _ (c .before .before .of-server .given .1) .most, c .before .before .before .before .before .before .before .before .before .before .before .before .before .before .before .before .pre .1 8 (omega arith), c .before .before .before .before .before .before .before .before .before .before .before .before .before .before .before .before .pre .1 9 (omega arith))
+add-t15 c = omega (arith, client-most _ (c .before .before .before .before .before .before .before .before .before .before .before .before .before .before .before .before .pre .1) _ _ _ _ (c .before .before .before .before .before .before .before .before .each-slot .ensures) (c .before .before .before .before .before .before .of-client .given .1) (c .before .before .before .before .each-slot2 .ensures) (c .before .before .of-server .given .1), server-most _ (c .before .before .before .before .before .before .before .before .before .before .before .before .before .before .before .before .pre .1) _ _ _ _ (c .before .before .before .before .before .before .before .before .each-slot .ensures) (c .before .before .before .before .before .before .of-client .given .1) (c .before .before .before .before .each-slot2 .ensures) (c .before .before .of-server .given .1))
 
 returns-5 : tie.Need-returns-5
-unfolding FoundAll
-returns-5 c = let ec = passed (c .before .before .before .before .before .before .before .before .before .before .before .before .all-empty .ensures) (c .before .before .before .before .before .before .before .before .before .before .before .if1 .left) in let es = passed (c .before .before .before .before .before .before .before .before .before .before .all-empty2 .ensures) (c .before .before .before .before .before .before .before .before .before .if2 .left) in let sum = reserve-all _ (c .before .before .before .before .before .before .before .before .before .before .before .before .before .before .before .before .pre .1) ec es _ _ _ (c .blocks-room .ensures) (room-in _ _ _ _ (c .before .before .before .before .before .before .before .before .each-slot .ensures) _ (c .before .before .before .before .before .before .of-client .given .1)) (room-in _ _ _ _ (c .before .before .before .before .each-slot2 .ensures) _ (c .before .before .of-server .given .1)) in (slots-all _ ec es (ok-in _ _ _ _ (c .before .before .before .before .before .before .before .before .each-slot .ensures) _ (c .before .before .before .before .before .before .of-client .given .1)) (ok-in _ _ _ _ (c .before .before .before .before .each-slot2 .ensures) _ (c .before .before .of-server .given .1)), sum .0, sum .1)
+returns-5 c = search found-all
 
 pub test-slots-spec : {M : Type 1} → statement M
 test-slots-spec =
