@@ -1,10 +1,11 @@
 // The header's words: what they may hold, and what is reserved for them.
 ghost use mathlib.Core.Path.{_≡_};
 ghost use mathlib.Core.Bool.{Bool};
-ghost use Prim.Native.Nat.{ℕ, _<_, _≤_};
+ghost use Prim.Native.Nat.{ℕ, _+_, _*_, _<_, _≤_};
 ghost use lib.ListN.{length};
 ghost use Rattle.layout.specs.Decides.{Decides};
-ghost use Rattle.layout.specs.Header.{Limited, ActionOk, SlotEmpty, SlotOk, SlotsOk, held, reserved as reservedOf};
+ghost use Rattle.layout.specs.Header.{Limited, ActionOk, SlotEmpty, SlotOk, SlotsOk, blockOf, timerOf, actionOf, held, reserved as reservedOf};
+ghost use Rattle.accept.specs.Slots.{Zeros, EmptyIn, RoomIn, FoundIn, FoundAll};
 use moment::Length;
 use moment::Moment;
 
@@ -143,22 +144,6 @@ fn slot_ok(header: &[u64], j: usize) -> bool
     action == 0
 }
 
-// Whether every slot is in order.
-pub fn slots_ok(header: &[u64]) -> bool
-    requires { ⌜ length (now header) ≡ 256 ⌝ }
-    ensures { λ r. ⌜ Decides (SlotsOk (now (header .entry))) r ⌝ }
-{
-    let mut j = 0;
-    while j < 32 {
-        let fine = slot_ok(header, j);
-        if !fine {
-            return false;
-        }
-        j += 1;
-    }
-    true
-}
-
 // 1 for a word that is set.
 pub fn one_if(x: u64) -> u64
     ensures { λ r. ⌜ r ≡ held x ⌝ }
@@ -166,16 +151,114 @@ pub fn one_if(x: u64) -> u64
     if x == 0 { 0 } else { 1 }
 }
 
-// The records kept in reserve.
-pub fn reserved(header: &[u64]) -> u64
-    requires { ⌜ length (now header) ≡ 256 ⌝ }
-    ensures { λ r. ⌜ (r ≡ reservedOf (now (header .entry))) × (r ≤ 166) ⌝ }
+// What slot j keeps in reserve.
+fn slot_room(header: &[u64], j: usize) -> u64
+    requires { ⌜ (length (now header) ≡ 256) × (j < 32) ⌝ }
+    ensures { λ r. ⌜ (r ≡ held (timerOf (now (header .entry)) j) + 4 * held (actionOf (now (header .entry)) j)) × (r ≤ 5) ⌝ }
 {
-    let mut sum = 3 * one_if(header[12]) + 3 * one_if(header[13]);
-    let mut j = 0;
-    while j < 32 {
-        sum = sum + one_if(header[64 + j]) + 4 * one_if(header[96 + 3 * j]);
+    one_if(header[64 + j]) + 4 * one_if(header[96 + 3 * j])
+}
+
+// What the blocks keep in reserve.
+fn blocks_room(header: &[u64]) -> u64
+    requires { ⌜ length (now header) ≡ 256 ⌝ }
+    ensures { λ r. ⌜ (r ≡ 3 * held (blockOf (now (header .entry)) 0) + 3 * held (blockOf (now (header .entry)) 1)) × (r ≤ 6) ⌝ }
+{
+    3 * one_if(header[12]) + 3 * one_if(header[13])
+}
+
+// Whether no word from `from` on, below `end`, is set. They are or-ed together, so that no word needs a branch of its own.
+fn none_set(header: &[u64], from: usize, end: usize) -> bool
+    requires { ⌜ (length (now header) ≡ 256) × (from ≤ end) × (end ≤ 256) ⌝ }
+    ensures { λ r. ⌜ Decides (Zeros (now (header .entry)) from end) r ⌝ }
+{
+    let mut any: u64 = 0;
+    let mut i = from;
+    while i < end {
+        any = any | header[i];
+        i += 1;
+    }
+    any == 0
+}
+
+// Whether the slots from `from` on, below `end`, are empty.
+fn all_empty(header: &[u64], from: usize, end: usize) -> bool
+    requires { ⌜ (length (now header) ≡ 256) × (from ≤ end) × (end ≤ 32) ⌝ }
+    ensures { λ r. ⌜ Decides (EmptyIn (now (header .entry)) from end) r ⌝ }
+{
+    if !none_set(header, 64 + from, 64 + end) {
+        return false;
+    }
+    none_set(header, 96 + 3 * from, 96 + 3 * end)
+}
+
+// What a test of slots finds: one that is not in order, or the records that they keep in reserve.
+pub enum Slots {
+    Wrong,
+    Reserve(u64),
+}
+
+// The test of the slots from `from` on, below `end`: each is tested, and what it keeps in reserve is added.
+fn each_slot(header: &[u64], from: usize, end: usize) -> Slots
+    requires { ⌜ (length (now header) ≡ 256) × (from ≤ end) × (end ≤ 32) ⌝ }
+    ensures { λ r. ⌜ FoundIn (now (header .entry)) from end r ⌝ }
+{
+    let mut sum: u64 = 0;
+    let mut j = from;
+    while j < end {
+        if !slot_ok(header, j) {
+            return Slots::Wrong;
+        }
+        sum += slot_room(header, j);
         j += 1;
     }
-    sum
+    Slots::Reserve(sum)
+}
+
+// The test of all slots: those of the machines one by one; those above a side's machine count have to be empty, as most slots are.
+pub fn test_slots(header: &[u64]) -> Slots
+    requires { ⌜ length (now header) ≡ 256 ⌝ ∗ ⌜ Limited (now header) ⌝ }
+    ensures { λ r. ⌜ FoundAll (now (header .entry)) r ⌝ }
+{
+    let client = header[8] as usize;
+    let server = 16 + header[9] as usize;
+    if !all_empty(header, client, 16) {
+        return Slots::Wrong;
+    }
+    if !all_empty(header, server, 32) {
+        return Slots::Wrong;
+    }
+    let of_client = each_slot(header, 0, client);
+    let Slots::Reserve(c) = of_client else {
+        return Slots::Wrong;
+    };
+    let of_server = each_slot(header, 16, server);
+    let Slots::Reserve(s) = of_server else {
+        return Slots::Wrong;
+    };
+    Slots::Reserve(blocks_room(header) + c + s)
+}
+
+// What the slots from `from` on, below `end`, keep in reserve.
+fn slots_room(header: &[u64], from: usize, end: usize) -> u64
+    requires { ⌜ (length (now header) ≡ 256) × (from ≤ end) × (end ≤ 32) ⌝ }
+    ensures { λ r. ⌜ RoomIn (now (header .entry)) from end r ⌝ }
+{
+    let mut room: u64 = 0;
+    let mut j = from;
+    while j < end {
+        room += slot_room(header, j);
+        j += 1;
+    }
+    room
+}
+
+// The records kept in reserve, where the slots are in order: those of the machines alone keep any.
+pub fn reserved(header: &[u64]) -> u64
+    requires { ⌜ length (now header) ≡ 256 ⌝ ∗ ⌜ Limited (now header) ⌝ ∗ ⌜ SlotsOk (now header) ⌝ }
+    ensures { λ r. ⌜ (r ≡ reservedOf (now (header .entry))) × (r ≤ 166) ⌝ }
+{
+    let client = slots_room(header, 0, header[8] as usize);
+    let server = slots_room(header, 16, 16 + header[9] as usize);
+    blocks_room(header) + client + server
 }

@@ -150,16 +150,18 @@ fn follows(k: u64, last_moment: u64, last_rank: u64, moment: u64, rank: u64) -> 
     last_rank <= rank
 }
 
-// Whether `head` starts a chain of `count` records of number k, in order, of a side with so many machines. Each word is read once.
-fn chain_ok(records: &[u64], k: u64, machines: u64, head: u64, count: u64) -> bool
-    requires { ⌜ (k < chainCount) × (length (now records) ≤ 262140) ⌝ }
-    ensures { λ x. ⌜ Decides (Chain (now (records .entry)) k machines count 0 0 head) x ⌝ }
+// Whether `head` starts a chain of n records of number k, in order, of a side with so many machines. Each word is read once. The last record is noted in
+// `hints`, 0 where the chain has none: nothing is promised of it, a caller that uses it tests it.
+fn chain_ok(rest: &[u64], hints: &mut [u64; 12], k: u64, machines: u64, head: u64, n: u64) -> bool
+    requires { ⌜ (k < chainCount) × (length (now rest) ≤ 262140) ⌝ }
+    ensures { λ x. ⌜ Decides (Chain (now (rest .entry)) k machines n 0 0 head) x ⌝ }
 {
-    let last = (records.len() / 4) as u64;
+    let last = (rest.len() / 4) as u64;
     let mut at = head;
-    let mut left = count;
+    let mut left = n;
     let mut moment: u64 = 0;
     let mut rank: u64 = 0;
+    let mut tail: u64 = 0;
     while left > 0 {
         if at == 0 {
             return false;
@@ -167,9 +169,9 @@ fn chain_ok(records: &[u64], k: u64, machines: u64, head: u64, count: u64) -> bo
         if at > last {
             return false;
         }
-        let m = words::get(records, at, 1);
-        let tag = words::get(records, at, 3);
-        if !record_ok(k, machines, m, words::get(records, at, 2), tag) {
+        let m = words::get(rest, at, 1);
+        let tag = words::get(rest, at, 3);
+        if !record_ok(k, machines, m, words::get(rest, at, 2), tag) {
             return false;
         }
         let r = tag::kind(tag);
@@ -178,14 +180,16 @@ fn chain_ok(records: &[u64], k: u64, machines: u64, head: u64, count: u64) -> bo
         }
         moment = m;
         rank = r;
-        at = words::get(records, at, 0);
+        tail = at;
+        at = words::get(rest, at, 0);
         left -= 1;
     }
+    hints[k as usize] = tail;
     at == 0
 }
 
-// Whether each chain is in order. A count is held against the number of records before its chain is walked.
-pub fn chains_ok(header: &[u64], records: &[u64]) -> bool
+// Whether each chain is in order. A count is held against the number of records before its chain is walked. The last record of each is noted in `hints`.
+pub fn chains_ok(header: &[u64], records: &[u64], hints: &mut [u64; 12]) -> bool
     requires { ⌜ (length (now header) ≡ 256) × (length (now records) ≤ 262140) ⌝ }
     ensures { λ x. ⌜ Decides (ChainsOk (now (header .entry)) (now (records .entry))) x ⌝ }
 {
@@ -197,7 +201,14 @@ pub fn chains_ok(header: &[u64], records: &[u64]) -> bool
             return false;
         }
         let machines = header[8 + k / 6];
-        if !chain_ok(records, k as u64, machines, header[24 + 2 * k], count) {
+        if !chain_ok(
+            records,
+            hints,
+            k as u64,
+            machines,
+            header[24 + 2 * k],
+            count,
+        ) {
             return false;
         }
         k += 1;

@@ -6,18 +6,21 @@ use mathlib.Core.List.{List, [], _∷_, map}
 use mathlib.Core.Option.{Option, none, some, Option·map}
 use native.Mathlib.Omega.{arith}
 use native.Mathlib.Decide.{ℕ-discrete}
-use lib.Dec.{eqb}
+use lib.Dec.{eqb, ltb}
 use lib.ListN.{getD}
+use borrow.Author.Tests.{ltb-true, ltb-false}
 use Rattle.rules.specs.Basics.{if_then_else_}
 use Rattle.rules.specs.State.{Action}
 use Rattle.rules.specs.ChoiceDelays.{actionMoments}
 use Rattle.rules.specs.ChoiceRound.{slotAt, slotOf, Slot}
 use Rattle.event.specs.HandedIn.{sideOf}
 use Rattle.layout.specs.Changes.{sideNo}
+use Rattle.layout.specs.Header.{SlotsOk}
 use Rattle.layout.specs.Layout.{lessOne, actionFrom, bank, firsts, stateFrom}
 use Rattle.queue.specs.Heads.{sideHeld}
 use Rattle.moment.specs.declared.Moment.{Moment}
 use Rattle.layout.proofs.Banks.{bank-at}
+use Rattle.queue_peek.proofs.BeyondMachines.{timer-beyond, action-beyond}
 use Rattle.candidate.specs.declared.Machine.{Machine}
 use Rattle.candidate.specs.declared.Machine.the-variants.{At as AtMachine, Nothing as NoMachine}
 use Rattle.candidate.specs.declared.Due.{Due}
@@ -118,6 +121,14 @@ missed-turn f t m r p e z = record { below = λ i l. go i l (ℕ-discrete i m) }
     go i l (yes q) = ap (λ j. hasMoment t (f j)) q ∙ sym e ∙ z
     go i l (no q) = p .below i (omega (arith, q))
 
+-- none below m, and from m on none that holds anything
+missed-all : (f : ℕ → Option ℕ) (t m : ℕ) → Missed f t m → ((i : ℕ) → m ≤ i → i < 16 → f i ≡ none) → (i : ℕ) → i < 16 → hasMoment t (f i) ≡ false
+missed-all f t m p e i l = go (ltb i m) refl
+  where
+    go : (r : Bool) → ltb i m ≡ r → hasMoment t (f i) ≡ false
+    go true q = p .below i (ltb-true i m q)
+    go false q = ap (hasMoment t) (e i (ltb-false i m q) l)
+
 map-firsts : {A B : Type 0} (g : A → B) (n : ℕ) (f : ℕ → A) → map g (firsts n f) ≡ firsts n (λ i. g (f i))
 map-firsts g zero f = refl
 map-firsts g (suc n) f = ap (λ l. g (f 0) ∷ l) (map-firsts g n (λ i. f (suc i)))
@@ -143,23 +154,24 @@ module _ (h : List ℕ) (b : Bool) (t m : ℕ) where
   pub action-next : (r : Bool) → Missed (momentIn h b) t m → r ≡ hasMoment t (momentIn h b m) → r ≡ false → Missed (momentIn h b) t (m + 1)
   action-next r p e z = missed-turn (momentIn h b) t m r p e z
 
-  module _ (r : Bool) (l : m < 16) (z : r ≡ true) where
+  module _ (r : Bool) (n : ℕ) (few : n ≤ 16) (l : m < n) (z : r ≡ true) where
     pub timer-found : Missed (timerIn h b) t m → r ≡ hasMoment t (timerIn h b m) → (rs : List ℕ) → machineOf (AtMachine m) ≡ slotAt t (sideHeld h rs b .timers)
     unfolding machineOf
-    timer-found p e rs = sym (ap (slotAt t) (timers-are h rs b) ∙ slot-first 16 (timerIn h b) t m l (p .below) (sym e ∙ z))
+    timer-found p e rs = sym (ap (slotAt t) (timers-are h rs b) ∙ slot-first 16 (timerIn h b) t m (omega arith) (p .below) (sym e ∙ z))
 
     pub action-found : Missed (momentIn h b) t m → r ≡ hasMoment t (momentIn h b m) → (rs : List ℕ) → machineOf (AtMachine m) ≡ slotAt t (actionMoments (sideHeld h rs b))
     unfolding machineOf
-    action-found p e rs = sym (ap (slotAt t) (moments-are h rs b) ∙ slot-first 16 (momentIn h b) t m l (p .below) (sym e ∙ z))
+    action-found p e rs = sym (ap (slotAt t) (moments-are h rs b) ∙ slot-first 16 (momentIn h b) t m (omega arith) (p .below) (sym e ∙ z))
 
-  module _ (l : 16 ≤ m) where
+  module _ (ok : SlotsOk h) (n : ℕ) (l : n ≤ m) (e : n ≡ getD h (8 + sideNo (sideOf b)) 0) where
     pub timer-nowhere : Missed (timerIn h b) t m → (rs : List ℕ) → machineOf NoMachine ≡ slotAt t (sideHeld h rs b .timers)
-    unfolding machineOf
-    timer-nowhere p rs = sym (ap (slotAt t) (timers-are h rs b) ∙ slot-none 16 (timerIn h b) t (λ i k. p .below i (omega arith)))
+    unfolding machineOf timerIn
+    timer-nowhere p rs = sym (ap (slotAt t) (timers-are h rs b) ∙ slot-none 16 (timerIn h b) t (missed-all (timerIn h b) t m p (λ i k last. timer-beyond h ok b i (omega arith) last)))
 
     pub action-nowhere : Missed (momentIn h b) t m → (rs : List ℕ) → machineOf NoMachine ≡ slotAt t (actionMoments (sideHeld h rs b))
-    unfolding machineOf
-    action-nowhere p rs = sym (ap (slotAt t) (moments-are h rs b) ∙ slot-none 16 (momentIn h b) t (λ i k. p .below i (omega arith)))
+    unfolding machineOf momentIn plannedIn
+    action-nowhere p rs =
+        sym (ap (slotAt t) (moments-are h rs b) ∙ slot-none 16 (momentIn h b) t (missed-all (momentIn h b) t m p (λ i k last. ap (Option·map (λ (a : Action). a .moment)) (action-beyond h ok b i (omega arith) last _ _))))
 
 -- ---- the client first
 

@@ -10,6 +10,7 @@ ghost use Rattle.rules.specs.ChoiceDelays.{delays as delaysAt, nextBlock};
 ghost use Rattle.rules.specs.ChoiceDelays.{offered as offeredAt};
 ghost use Rattle.rules.specs.ChoiceRound.{candidate as candidateAt, aggregateFirst, blockFirst, eventFirst, orNone, anAggregate, aBlock, anEvent, dueTimer, dueAction};
 ghost use Rattle.layout.specs.Accepted.{Good};
+ghost use Rattle.layout.specs.Header.{Limited, SlotsOk};
 ghost use Rattle.layout.specs.Layout.{stateFrom};
 ghost use Rattle.queue.specs.Heads.{PeekedBoth};
 ghost use Rattle.queue_peek.specs.Decoded.{delayOf, delaysOf};
@@ -115,7 +116,7 @@ fn event_candidate(found: Found) -> Next
 
 // The timer that is due after the delay.
 fn timer_candidate(head: &[u64], i: Delay, time: Moment) -> Next
-    requires { ⌜ length (now head) ≡ 256 ⌝ ∗ ⌜ Ahead (time .0) (delayOf i) ⌝ }
+    requires { ⌜ length (now head) ≡ 256 ⌝ ∗ ⌜ Limited (now head) ⌝ ∗ ⌜ SlotsOk (now head) ⌝ ∗ ⌜ Ahead (time .0) (delayOf i) ⌝ }
     ensures { λ r. ⌜ ((rs : List ℕ) → Picked (now (head .entry)) rs r (dueTimer (stateFrom (now (head .entry)) rs) (time .0) (delayOf i))) ⌝ }
 {
     let Delay::In(l) = i else {
@@ -131,7 +132,7 @@ fn timer_candidate(head: &[u64], i: Delay, time: Moment) -> Next
 
 // The action that is due after the delay.
 fn action_candidate(head: &[u64], s: Delay, time: Moment) -> Next
-    requires { ⌜ length (now head) ≡ 256 ⌝ ∗ ⌜ Ahead (time .0) (delayOf s) ⌝ }
+    requires { ⌜ length (now head) ≡ 256 ⌝ ∗ ⌜ Limited (now head) ⌝ ∗ ⌜ SlotsOk (now head) ⌝ ∗ ⌜ Ahead (time .0) (delayOf s) ⌝ }
     ensures { λ r. ⌜ ((rs : List ℕ) → Picked (now (head .entry)) rs r (dueAction (stateFrom (now (head .entry)) rs) (time .0) (delayOf s))) ⌝ }
 {
     let Delay::In(l) = s else {

@@ -8,6 +8,7 @@ ghost use Rattle.rules.specs.ChoiceRound.{slotAt, actionFrom};
 ghost use Rattle.event.specs.HandedIn.{sideOf};
 ghost use Rattle.queue_event.specs.Tag.{flag};
 ghost use Rattle.layout.specs.Changes.{sideNo};
+ghost use Rattle.layout.specs.Header.{Limited, SlotsOk};
 ghost use Rattle.layout.specs.Layout.{stateFrom};
 ghost use Rattle.queue.specs.Heads.{sideHeld};
 ghost use Rattle.candidate.specs.Candidates.{dueSlot};
@@ -22,6 +23,7 @@ use event::ActionKind;
 use event::ScheduledAction;
 use moment::Length;
 use moment::Moment;
+use queue::header;
 
 // Where the timer of a machine stands.
 fn timer_slot(client: bool, machine: u64) -> usize
@@ -70,13 +72,14 @@ fn action_has(head: &[u64], client: bool, machine: u64, moment: Moment) -> bool
     head[at + 1] == moment.0
 }
 
-// The lowest machine of a side whose timer has the moment.
+// The lowest machine of a side whose timer has the moment. No slot above its machines holds one.
 pub fn timer_at(head: &[u64], client: bool, moment: Moment) -> Machine
-    requires { ⌜ length (now head) ≡ 256 ⌝ }
+    requires { ⌜ length (now head) ≡ 256 ⌝ ∗ ⌜ Limited (now head) ⌝ ∗ ⌜ SlotsOk (now head) ⌝ }
     ensures { λ r. ⌜ ((rs : List ℕ) → machineOf r ≡ slotAt (moment .0) (sideHeld (now (head .entry)) rs client .timers)) ⌝ }
 {
+    let timers = header::of_side(head, header::MACHINES, client);
     let mut m = 0;
-    while m < 16 {
+    while m < timers {
         if timer_has(head, client, m, moment) {
             return Machine::At(m);
         }
@@ -85,13 +88,14 @@ pub fn timer_at(head: &[u64], client: bool, moment: Moment) -> Machine
     Machine::Nothing
 }
 
-// The lowest machine of a side whose action has the moment.
+// The lowest machine of a side whose action has the moment. No slot above its machines holds one.
 pub fn action_at(head: &[u64], client: bool, moment: Moment) -> Machine
-    requires { ⌜ length (now head) ≡ 256 ⌝ }
+    requires { ⌜ length (now head) ≡ 256 ⌝ ∗ ⌜ Limited (now head) ⌝ ∗ ⌜ SlotsOk (now head) ⌝ }
     ensures { λ r. ⌜ ((rs : List ℕ) → machineOf r ≡ slotAt (moment .0) (actionMoments (sideHeld (now (head .entry)) rs client))) ⌝ }
 {
+    let actions = header::of_side(head, header::MACHINES, client);
     let mut m = 0;
-    while m < 16 {
+    while m < actions {
         if action_has(head, client, m, moment) {
             return Machine::At(m);
         }
@@ -116,7 +120,7 @@ fn due_on(client: bool, machine: Machine, moment: Moment) -> FirstDue
 
 // The timer that is due at the moment: the client's first, then the lowest machine's.
 pub fn due_timer(head: &[u64], moment: Moment) -> FirstDue
-    requires { ⌜ length (now head) ≡ 256 ⌝ }
+    requires { ⌜ length (now head) ≡ 256 ⌝ ∗ ⌜ Limited (now head) ⌝ ∗ ⌜ SlotsOk (now head) ⌝ }
     ensures { λ r. ⌜ DueTimer (now (head .entry)) (moment .0) r ⌝ }
 {
     let of_client = timer_at(head, true, moment);
@@ -128,7 +132,7 @@ pub fn due_timer(head: &[u64], moment: Moment) -> FirstDue
 
 // The action that is due at the moment, in the same order.
 pub fn due_action(head: &[u64], moment: Moment) -> FirstDue
-    requires { ⌜ length (now head) ≡ 256 ⌝ }
+    requires { ⌜ length (now head) ≡ 256 ⌝ ∗ ⌜ Limited (now head) ⌝ ∗ ⌜ SlotsOk (now head) ⌝ }
     ensures { λ r. ⌜ DueAction (now (head .entry)) (moment .0) r ⌝ }
 {
     let of_client = action_at(head, true, moment);

@@ -1,4 +1,5 @@
 pub mod DelayOrder
+pub mod BeyondMachines
 pub mod SlotDelays
 pub mod BlockLaws
 pub mod QueueLaws

@@ -13,6 +13,7 @@ use Rattle.rules.specs.Basics.{if_then_else_, after, absent, earlier}
 use Rattle.rules.specs.State.{Action}
 use Rattle.rules.specs.ChoiceDelays.{slotDelay, leastDelay, actionMoments}
 use Rattle.event.specs.HandedIn.{sideOf}
+use Rattle.layout.specs.Header.{Limited, SlotsOk}
 use Rattle.layout.specs.Layout.{lessOne, actionFrom, bank, firsts, timersFrom, actionsFrom, stateFrom}
 use Rattle.queue.specs.Heads.{sideHeld}
 use Rattle.layout.specs.Changes.{sideNo}
@@ -21,6 +22,7 @@ use Rattle.queue_peek.specs.declared.order.Delay.{Delay}
 use Rattle.queue_peek.specs.declared.order.Delay.the-variants.{Absent, In}
 use Rattle.queue_peek.specs.Decoded.{delayOf}
 use Rattle.queue_peek.specs.Promises.{momentOf, timersFromOn, actionsFromOn}
+use Rattle.queue_peek.proofs.BeyondMachines.{machines-few, timer-beyond, action-beyond, least-none}
 
 -- ---- one slot
 
@@ -91,14 +93,18 @@ module _ (h : List ℕ) (b : Bool) (t : ℕ) where
   unfolding action
   actions-are = map-firsts (Option·map momentOf) 16 action
 
-  -- before the first turn
-  pub timers-start : delayOf Absent ≡ timersFromOn h b t 16
-  unfolding delayOf timersFromOn
-  timers-start = refl
+  -- before the first turn: nothing is held at or above the machine count
+  module _ (m : ℕ) (few : Limited h) (ok : SlotsOk h) (e : m ≡ getD h (8 + sideNo (sideOf b)) 0) where
+    pub timers-start : (m ≤ 16) × (delayOf Absent ≡ timersFromOn h b t m)
+    unfolding delayOf timersFromOn timer
+    timers-start = (machines-few h b m few e, sym (least-none t 16 m timer (λ i past last. timer-beyond h ok b i (rw e at past) last)))
 
-  pub actions-start : delayOf Absent ≡ actionsFromOn h b t 16
-  unfolding delayOf actionsFromOn
-  actions-start = refl
+    pub actions-start : (m ≤ 16) × (delayOf Absent ≡ actionsFromOn h b t m)
+    unfolding delayOf actionsFromOn action
+    actions-start = (
+      machines-few h b m few e,
+      sym (ap (λ l. leastDelay t (drop m l)) actions-are ∙ least-none t 16 m (λ i. Option·map momentOf (action i)) (λ i past last. ap (Option·map momentOf) (action-beyond h ok b i (rw e at past) last _ _))),
+    )
 
   module _ (m at : ℕ) (best d next : Delay) (lo : 0 < m) (hi : m ≤ 16) where
     pub timers-turn :

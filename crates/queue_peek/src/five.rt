@@ -7,6 +7,7 @@ ghost use Rattle.rules.specs.Limits.{momentLimit};
 ghost use Rattle.rules.specs.ChoiceHeads.{headDelay, peekQueue};
 ghost use Rattle.rules.specs.ChoiceDelays.{actionDelay, timerDelay, blockDelay, aggregateDelay};
 ghost use Rattle.layout.specs.Accepted.{Good};
+ghost use Rattle.layout.specs.Header.{Limited, SlotsOk};
 ghost use Rattle.layout.specs.Layout.{stateFrom};
 ghost use Rattle.queue.specs.Heads.{PeekedBoth};
 ghost use Rattle.queue_peek.specs.Decoded.{delayOf, delaysOf, noDelays, withS, withI, withB, withN, withQ, leastOf};
@@ -48,7 +49,7 @@ impl Delays {
 
     // s: the least delay of an action at or after the time.
     pub fn peek_scheduled_action(mut self, head: &[u64], time: Moment) -> Self
-        requires { ⌜ length (now head) ≡ 256 ⌝ }
+        requires { ⌜ length (now head) ≡ 256 ⌝ ∗ ⌜ Limited (now head) ⌝ ∗ ⌜ SlotsOk (now head) ⌝ }
         ensures { λ r. ⌜ ((rs : List ℕ) → delaysOf r ≡ withS (delaysOf self) (actionDelay (stateFrom (now (head .entry)) rs) (time .0))) × (r .found ≡ self .found) ⌝ }
     {
         let i = self.i;
@@ -72,7 +73,7 @@ impl Delays {
 
     // i: the least delay of a timer at or after the time.
     pub fn peek_scheduled_internal_timer(mut self, head: &[u64], time: Moment) -> Self
-        requires { ⌜ length (now head) ≡ 256 ⌝ }
+        requires { ⌜ length (now head) ≡ 256 ⌝ ∗ ⌜ Limited (now head) ⌝ ∗ ⌜ SlotsOk (now head) ⌝ }
         ensures { λ r. ⌜ ((rs : List ℕ) → delaysOf r ≡ withI (delaysOf self) (timerDelay (stateFrom (now (head .entry)) rs) (time .0))) × (r .found ≡ self .found) ⌝ }
     {
         let s = self.s;

@@ -8,12 +8,14 @@ ghost use Rattle.rules.specs.ChoiceDelays.{slotDelay, leastDelay, actionMoments
 ghost use Rattle.event.specs.HandedIn.{sideOf};
 ghost use Rattle.layout.specs.Layout.{lessOne, actionFrom};
 ghost use Rattle.layout.specs.Changes.{sideNo};
+ghost use Rattle.layout.specs.Header.{Limited, SlotsOk};
 ghost use Rattle.queue.specs.Heads.{sideHeld};
 ghost use Rattle.queue_peek.specs.Decoded.{delayOf};
 ghost use Rattle.queue_peek.specs.Promises.{momentOf};
 use crate::order;
 use crate::order::Delay;
 use moment::Moment;
+use queue::header;
 
 // The delay to a moment; one that is past is never taken.
 fn delay_to(moment: Moment, time: Moment) -> Delay
@@ -67,13 +69,14 @@ fn action_slot(client: bool, machine: usize) -> usize
     144 + 3 * machine
 }
 
-// The least delay of a side's timers.
+// The least delay of a side's timers: of its machines', since no other slot holds one.
 pub fn least_timer(head: &[u64], client: bool, time: Moment) -> Delay
-    requires { ⌜ length (now head) ≡ 256 ⌝ }
+    requires { ⌜ length (now head) ≡ 256 ⌝ ∗ ⌜ Limited (now head) ⌝ ∗ ⌜ SlotsOk (now head) ⌝ }
     ensures { λ r. ⌜ ((rs : List ℕ) → delayOf r ≡ leastDelay (time .0) (sideHeld (now (head .entry)) rs client .timers)) ⌝ }
 {
+    let timers = header::of_side(head, header::MACHINES, client) as usize;
     let mut best = Delay::Absent;
-    let mut m = 16;
+    let mut m = timers;
     while 0 < m {
         m = m - 1;
         let at = timer_slot(client, m);
@@ -83,13 +86,14 @@ pub fn least_timer(head: &[u64], client: bool, time: Moment) -> Delay
     best
 }
 
-// The least delay of a side's actions.
+// The least delay of a side's actions: of its machines', since no other slot holds one.
 pub fn least_action(head: &[u64], client: bool, time: Moment) -> Delay
-    requires { ⌜ length (now head) ≡ 256 ⌝ }
+    requires { ⌜ length (now head) ≡ 256 ⌝ ∗ ⌜ Limited (now head) ⌝ ∗ ⌜ SlotsOk (now head) ⌝ }
     ensures { λ r. ⌜ ((rs : List ℕ) → delayOf r ≡ leastDelay (time .0) (actionMoments (sideHeld (now (head .entry)) rs client))) ⌝ }
 {
+    let actions = header::of_side(head, header::MACHINES, client) as usize;
     let mut best = Delay::Absent;
-    let mut m = 16;
+    let mut m = actions;
     while 0 < m {
         m = m - 1;
         let at = action_slot(client, m);

@@ -5,7 +5,7 @@ ghost use lib.ListN.{length, getD};
 ghost use Rattle.rules.specs.Arguments.{set-action, set-timer, clear-action, clear-timer};
 ghost use Rattle.event.specs.HandedIn.{actionIn, sideOf};
 ghost use Rattle.layout.specs.Accepted.{Accepted};
-ghost use Rattle.layout.specs.Header.{Limited};
+ghost use Rattle.layout.specs.Header.{Limited, SlotsOk};
 ghost use Rattle.queue_event.specs.Tag.{bit as bitOf};
 ghost use Rattle.layout.specs.Changes.{sideNo};
 ghost use Rattle.layout.specs.Changes.{putAction};
@@ -45,7 +45,7 @@ fn slot_number(head: &[u64], client: bool, machine: u64) -> u64
 
 // Whether there is no room for what the slot reserves beyond what it reserves now.
 fn no_room(head: &[u64], word: u64, size: u64) -> bool
-    requires { ⌜ length (now head) ≡ 256 ⌝ ∗ ⌜ size ≤ 4 ⌝ }
+    requires { ⌜ length (now head) ≡ 256 ⌝ ∗ ⌜ Limited (now head) ⌝ ∗ ⌜ SlotsOk (now head) ⌝ ∗ ⌜ size ≤ 4 ⌝ }
     ensures { λ b. ⌜ b ≡ noRoom (now (head .entry)) word size ⌝ }
 {
     if word != 0 {
@@ -56,7 +56,7 @@ fn no_room(head: &[u64], word: u64, size: u64) -> bool
 
 // The number of setting a timer from 5 on; 0 for none.
 fn timer_number(head: &[u64], client: bool, machine: u64, moment: Moment) -> u64
-    requires { ⌜ length (now head) ≡ 256 ⌝ ∗ ⌜ Limited (now head) ⌝ ∗ ⌜ getD (now head) 16 0 ≡ 0 ⌝ }
+    requires { ⌜ length (now head) ≡ 256 ⌝ ∗ ⌜ Limited (now head) ⌝ ∗ ⌜ getD (now head) 16 0 ≡ 0 ⌝ ∗ ⌜ SlotsOk (now head) ⌝ }
     ensures { λ n. ⌜ CallNumber (now (head .entry)) (set-timer (slotIn client machine) (moment .0)) n ⌝ }
 {
     let n = slot_number(head, client, machine);
@@ -85,7 +85,7 @@ fn kept_duration(a: ScheduledAction) -> Length
 
 // The number of setting an action from 5 on; 0 for none.
 fn action_number(head: &[u64], client: bool, machine: u64, a: ScheduledAction) -> u64
-    requires { ⌜ length (now head) ≡ 256 ⌝ ∗ ⌜ Limited (now head) ⌝ ∗ ⌜ getD (now head) 16 0 ≡ 0 ⌝ }
+    requires { ⌜ length (now head) ≡ 256 ⌝ ∗ ⌜ Limited (now head) ⌝ ∗ ⌜ getD (now head) 16 0 ≡ 0 ⌝ ∗ ⌜ SlotsOk (now head) ⌝ }
     ensures { λ n. ⌜ CallNumber (now (head .entry)) (set-action (slotIn client machine) (actionIn a)) n ⌝ }
 {
     let n = slot_number(head, client, machine);

@@ -7,10 +7,10 @@ use Rattle.accept.proofs.records.chain_ok.Statement.{statement}
 use Rattle.accept.proofs.records.chain_ok.Tie as tie
 
 abbrev Inv-loop : tie.InvT-loop
-Inv-loop records k machines head count last at₀ left₀ moment₀ rank₀ at left moment rank = Rest (Chain records k machines count 0 0 head) (Chain records k machines left moment rank at)
+Inv-loop rest hints₀ k machines head n last at₀ left₀ moment₀ rank₀ tail₀ at left moment rank tail = Rest (Chain rest k machines n 0 0 head) (Chain rest k machines left moment rank at)
 
 abbrev μ-loop : tie.MeasureT-loop
-μ-loop records k machines head count last at₀ left₀ moment₀ rank₀ at left moment rank = left
+μ-loop rest hints₀ k machines head n last at₀ left₀ moment₀ rank₀ tail₀ at left moment rank tail = left
 
 loop-holds : tie.Need-loop-holds Inv-loop μ-loop
 loop-holds c = rest-all
@@ -57,6 +57,12 @@ loop-less c = omega arith
 loop-again : tie.Need-loop-again Inv-loop μ-loop
 loop-again c = walk-turn _ _ _ _ _ _ _ (c .before .before .before .before .before .before .before .before .before .before .before .before .loop .inv) (omega arith) _ _ _ _ _ (c .before .before .before .before .before .before .before .before .get .ensures) (c .before .before .before .before .before .before .get3 .ensures) (c .before .before .before .before .before .before .before .get2 .ensures) (c .before .before .before .before .before .record-ok .ensures) (c .before .before .before .before .if3 .left) _ (c .before .before .before .kind .ensures) (c .before .before .follows .ensures) (c .before .if4 .left) (omega arith) (omega arith) _ (c .get4 .ensures)
 
+mul-hints : tie.Need-mul-hints Inv-loop μ-loop
+mul-hints c = search needs
+
+element-write-hints : tie.Need-element-write-hints Inv-loop μ-loop
+element-write-hints c = search needs
+
 returns-5 : tie.Need-returns-5 Inv-loop μ-loop
 returns-5 c = walk-ends _ _ _ _ _ _ _ (c .before .loop .inv) (omega arith)
 
@@ -81,4 +87,6 @@ chain-ok-spec =
     sub-left
     loop-less
     loop-again
+    mul-hints
+    element-write-hints
     returns-5)

@@ -10,10 +10,10 @@ use Rattle.accept.proofs.records.chains_ok.Statement.{statement}
 use Rattle.accept.proofs.records.chains_ok.Tie as tie
 
 abbrev Inv-loop : tie.InvT-loop
-Inv-loop header records last k₀ k = (k ≤ chainCount) × ((j : ℕ) → j < k → ChainOk header records j)
+Inv-loop header records hints₀ last k₀ hints k = (k ≤ chainCount) × ((j : ℕ) → j < k → ChainOk header records j)
 
 abbrev μ-loop : tie.MeasureT-loop
-μ-loop header records last k₀ k = chainCount - k
+μ-loop header records hints₀ last k₀ hints k = chainCount - k
 
 loop-holds : tie.Need-loop-holds Inv-loop μ-loop
 loop-holds c = (omega arith, below-none _)
@@ -67,7 +67,7 @@ loop-less : tie.Need-loop-less Inv-loop μ-loop
 loop-less c = omega arith
 
 loop-again : tie.Need-loop-again Inv-loop μ-loop
-loop-again c = (omega arith, below-more _ _ (c .before .before .before .before .before .before .before .loop .inv .1) (chain-ok _ _ _ (omega arith) (passed (c .before .chain-ok .ensures) (c .if2 .left))))
+loop-again c = (omega arith, below-more _ _ (c .before .before .before .before .before .before .before .before .loop .inv .1) (chain-ok _ _ _ (omega arith) (passed (c .before .chain-ok .ensures) (c .if2 .left))))
 
 returns-3 : tie.Need-returns-3 Inv-loop μ-loop
 returns-3 c = holds (λ j h. c .before .loop .inv .1 j (omega arith))

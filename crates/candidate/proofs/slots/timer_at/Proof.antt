@@ -2,19 +2,23 @@
 use Prim.Native.Nat.{_≤_, _-_}
 use native.Mathlib.Omega.{arith}
 use borrow.Author.Needs.{needs}
+use Rattle.queue_peek.proofs.BeyondMachines.{machines-few}
 use Rattle.candidate.specs.Promises.{timerIn, Missed}
 use Rattle.candidate.proofs.SlotLaws.{missed-start, timer-next, timer-found, timer-nowhere}
 use Rattle.candidate.proofs.slots.timer_at.Statement.{statement}
 use Rattle.candidate.proofs.slots.timer_at.Tie as tie
 
 abbrev Inv-loop : tie.InvT-loop
-Inv-loop head client moment m₀ m = (m ≤ 16) × Missed (timerIn head client) (moment .0) m
+Inv-loop head client moment timers m₀ m = (timers ≤ 16) × Missed (timerIn head client) (moment .0) m
 
 abbrev μ-loop : tie.MeasureT-loop
-μ-loop head client moment m₀ m = 16 - m
+μ-loop head client moment timers m₀ m = 16 - m
+
+of-side-requires : tie.Need-of-side-requires Inv-loop μ-loop
+of-side-requires c κs = search needs
 
 loop-holds : tie.Need-loop-holds Inv-loop μ-loop
-loop-holds c = (omega arith, search missed-start)
+loop-holds c = (machines-few (c .before .before .args .head .now) (c .before .before .args .client) _ (c .before .before .pre .1 .0) (c .of-side .ensures), search missed-start)
 
 timer-has-requires : tie.Need-timer-has-requires Inv-loop μ-loop
 timer-has-requires c κs = search needs
@@ -29,7 +33,7 @@ loop-less : tie.Need-loop-less Inv-loop μ-loop
 loop-less c = omega arith
 
 loop-again : tie.Need-loop-again Inv-loop μ-loop
-loop-again c = (omega arith, search timer-next)
+loop-again c = (search needs, search timer-next)
 
 returns-2 : tie.Need-returns-2 Inv-loop μ-loop
 returns-2 c = search timer-nowhere
@@ -40,6 +44,7 @@ timer-at-spec =
     (tie.spec
     Inv-loop
     μ-loop
+    of-side-requires
     loop-holds
     timer-has-requires
     returns

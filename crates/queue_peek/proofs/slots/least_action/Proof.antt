@@ -10,13 +10,16 @@ use Rattle.queue_peek.proofs.slots.least_action.Statement.{statement}
 use Rattle.queue_peek.proofs.slots.least_action.Tie as tie
 
 abbrev Inv-loop : tie.InvT-loop
-Inv-loop head client time best₀ m₀ best m = (m ≤ 16) × (delayOf best ≡ actionsFromOn head client (time .0) m)
+Inv-loop head client time actions best₀ m₀ best m = (m ≤ 16) × (delayOf best ≡ actionsFromOn head client (time .0) m)
 
 abbrev μ-loop : tie.MeasureT-loop
-μ-loop head client time best₀ m₀ best m = m
+μ-loop head client time actions best₀ m₀ best m = m
+
+of-side-requires : tie.Need-of-side-requires Inv-loop μ-loop
+of-side-requires c κs = search needs
 
 loop-holds : tie.Need-loop-holds Inv-loop μ-loop
-loop-holds c = (omega arith, search actions-start)
+loop-holds c = actions-start _ _ _ _ (c .before .before .pre .1 .0) (c .before .before .pre .1 .1) (c .of-side .ensures)
 
 sub-m : tie.Need-sub-m Inv-loop μ-loop
 sub-m c = omega arith
@@ -60,6 +63,7 @@ least-action-spec =
     (tie.spec
     Inv-loop
     μ-loop
+    of-side-requires
     loop-holds
     sub-m
     action-slot-requires

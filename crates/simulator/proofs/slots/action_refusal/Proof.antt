@@ -4,7 +4,7 @@ use borrow.Author.Needs.{needs}
 use Rattle.event.specs.HandedIn.{actionIn}
 use Rattle.rules.specs.Arguments.{set-action}
 use Rattle.simulator.specs.Numbers.{slotIn}
-use Rattle.simulator.proofs.Admitting.{admit-n, admitted-long, admitted-wide, admitted-going, admitted-limits, admitted-number}
+use Rattle.simulator.proofs.Admitting.{admit-n, admitted-long, admitted-header, admitted-number}
 use Rattle.simulator.proofs.slots.action_refusal.Statement.{statement}
 use Rattle.simulator.proofs.slots.action_refusal.Tie as tie
 
@@ -24,7 +24,7 @@ part-action-number-end : tie.Need-part-action-number-end
 part-action-number-end c = omega (arith, admitted-long (c .before .before .before .args .block .now) _ (c .before .ended .ensures) (c .if1 .left))
 
 action-number-requires : tie.Need-action-number-requires
-action-number-requires c κs = (admitted-wide (c .before .before .before .before .args .block .now) _ (c .before .before .ended .ensures) (c .before .if1 .left), (admitted-limits (c .before .before .before .before .args .block .now) _ (c .before .before .ended .ensures) (c .before .if1 .left), admitted-going (c .before .before .before .before .args .block .now) _ (c .before .before .ended .ensures) (c .before .if1 .left)))
+action-number-requires c κs = admitted-header (c .before .before .before .before .args .block .now) _ (c .before .before .ended .ensures) (c .before .if1 .left)
 
 returns-2 : tie.Need-returns-2
 returns-2 c = admitted-number (c .before .before .before .before .before .args .block .now) _ (c .before .before .before .ended .ensures) (c .before .before .if1 .left) (set-action (slotIn (c .before .before .before .before .before .args .client) (c .before .before .before .before .before .args .machine)) (actionIn (c .before .before .before .before .before .args .a))) _ (c .action-number .ensures)

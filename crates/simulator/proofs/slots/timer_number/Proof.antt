@@ -8,16 +8,16 @@ slot-number-requires : tie.Need-slot-number-requires
 slot-number-requires c κs = search needs
 
 returns : tie.Need-returns
-returns c = timer-n (c .before .before .before .args .head .now) (c .before .before .before .args .client) (c .before .before .before .args .machine) (c .before .before .before .pre .1 .1) _ (c .before .slot-number .ensures) _ (c .if1 .taken)
+returns c = timer-n (c .before .before .before .args .head .now) (c .before .before .before .args .client) (c .before .before .before .args .machine) (c .before .before .before .pre .1 .1 .0) _ (c .before .slot-number .ensures) _ (c .if1 .taken)
 
 fits-requires : tie.Need-fits-requires
 fits-requires c κs = search needs
 
 returns-2 : tie.Need-returns-2
-returns-2 c = timer-7 (c .before .before .before .before .before .args .head .now) (c .before .before .before .before .before .args .client) (c .before .before .before .before .before .args .machine) (c .before .before .before .before .before .pre .1 .1) _ (c .before .before .before .slot-number .ensures) (c .before .before .if1 .left) (c .before .before .before .before .before .args .moment .0) _ (c .before .fits2 .ensures) (c .if2 .taken)
+returns-2 c = timer-7 (c .before .before .before .before .before .args .head .now) (c .before .before .before .before .before .args .client) (c .before .before .before .before .before .args .machine) (c .before .before .before .before .before .pre .1 .1 .0) _ (c .before .before .before .slot-number .ensures) (c .before .before .if1 .left) (c .before .before .before .before .before .args .moment .0) _ (c .before .fits2 .ensures) (c .if2 .taken)
 
 slot-requires : tie.Need-slot-requires
-slot-requires c κs = slot-small (c .before .before .before .before .before .args .head .now) (c .before .before .before .before .before .args .client) (c .before .before .before .before .before .args .machine) (c .before .before .before .before .before .pre .1 .1) _ (c .before .before .before .slot-number .ensures) (c .before .before .if1 .left) (c .before .before .before .before .before .pre .1 .0)
+slot-requires c κs = slot-small (c .before .before .before .before .before .args .head .now) (c .before .before .before .before .before .args .client) (c .before .before .before .before .before .args .machine) (c .before .before .before .before .before .pre .1 .1 .0) _ (c .before .before .before .slot-number .ensures) (c .before .before .if1 .left) (c .before .before .before .before .before .pre .1 .0)
 
 add-no-room : tie.Need-add-no-room
 add-no-room c = search needs
@@ -32,10 +32,10 @@ no-room-requires : tie.Need-no-room-requires
 no-room-requires c κs = search needs
 
 returns-3 : tie.Need-returns-3
-returns-3 c = timer-9 (c .before .before .before .before .before .before .before .before .before .args .head .now) (c .before .before .before .before .before .before .before .before .before .args .client) (c .before .before .before .before .before .before .before .before .before .args .machine) (c .before .before .before .before .before .before .before .before .before .pre .1 .1) _ (c .before .before .before .before .before .before .before .slot-number .ensures) (c .before .before .before .before .before .before .if1 .left) (c .before .before .before .before .before .before .before .before .before .args .moment .0) _ (c .before .before .before .before .before .fits2 .ensures) (c .before .before .before .before .if2 .left) _ (c .before .before .before .slot .ensures) _ (c .before .no-room .ensures) (c .if3 .taken)
+returns-3 c = timer-9 (c .before .before .before .before .before .before .before .before .before .args .head .now) (c .before .before .before .before .before .before .before .before .before .args .client) (c .before .before .before .before .before .before .before .before .before .args .machine) (c .before .before .before .before .before .before .before .before .before .pre .1 .1 .0) _ (c .before .before .before .before .before .before .before .slot-number .ensures) (c .before .before .before .before .before .before .if1 .left) (c .before .before .before .before .before .before .before .before .before .args .moment .0) _ (c .before .before .before .before .before .fits2 .ensures) (c .before .before .before .before .if2 .left) _ (c .before .before .before .slot .ensures) _ (c .before .no-room .ensures) (c .if3 .taken)
 
 returns-4 : tie.Need-returns-4
-returns-4 c = timer-0 (c .before .before .before .before .before .before .before .before .before .args .head .now) (c .before .before .before .before .before .before .before .before .before .args .client) (c .before .before .before .before .before .before .before .before .before .args .machine) (c .before .before .before .before .before .before .before .before .before .pre .1 .1) _ (c .before .before .before .before .before .before .before .slot-number .ensures) (c .before .before .before .before .before .before .if1 .left) (c .before .before .before .before .before .before .before .before .before .args .moment .0) _ (c .before .before .before .before .before .fits2 .ensures) (c .before .before .before .before .if2 .left) _ (c .before .before .before .slot .ensures) _ (c .before .no-room .ensures) (c .if3 .left)
+returns-4 c = timer-0 (c .before .before .before .before .before .before .before .before .before .args .head .now) (c .before .before .before .before .before .before .before .before .before .args .client) (c .before .before .before .before .before .before .before .before .before .args .machine) (c .before .before .before .before .before .before .before .before .before .pre .1 .1 .0) _ (c .before .before .before .before .before .before .before .slot-number .ensures) (c .before .before .before .before .before .before .if1 .left) (c .before .before .before .before .before .before .before .before .before .args .moment .0) _ (c .before .before .before .before .before .fits2 .ensures) (c .before .before .before .before .if2 .left) _ (c .before .before .before .slot .ensures) _ (c .before .no-room .ensures) (c .if3 .left)
 
 pub timer-number-spec : {M : Type 1} → statement M
 timer-number-spec =

@@ -3,7 +3,7 @@ use native.Mathlib.Omega.{arith}
 use borrow.Author.Needs.{needs}
 use Rattle.rules.specs.Arguments.{set-timer}
 use Rattle.simulator.specs.Numbers.{slotIn}
-use Rattle.simulator.proofs.Admitting.{admit-n, admitted-long, admitted-wide, admitted-going, admitted-limits, admitted-number}
+use Rattle.simulator.proofs.Admitting.{admit-n, admitted-long, admitted-header, admitted-number}
 use Rattle.simulator.proofs.slots.timer_refusal.Statement.{statement}
 use Rattle.simulator.proofs.slots.timer_refusal.Tie as tie
 
@@ -23,7 +23,7 @@ part-timer-number-end : tie.Need-part-timer-number-end
 part-timer-number-end c = omega (arith, admitted-long (c .before .before .before .args .block .now) _ (c .before .ended .ensures) (c .if1 .left))
 
 timer-number-requires : tie.Need-timer-number-requires
-timer-number-requires c κs = (admitted-wide (c .before .before .before .before .args .block .now) _ (c .before .before .ended .ensures) (c .before .if1 .left), (admitted-limits (c .before .before .before .before .args .block .now) _ (c .before .before .ended .ensures) (c .before .if1 .left), admitted-going (c .before .before .before .before .args .block .now) _ (c .before .before .ended .ensures) (c .before .if1 .left)))
+timer-number-requires c κs = admitted-header (c .before .before .before .before .args .block .now) _ (c .before .before .ended .ensures) (c .before .if1 .left)
 
 returns-2 : tie.Need-returns-2
 returns-2 c = admitted-number (c .before .before .before .before .before .args .block .now) _ (c .before .before .before .ended .ensures) (c .before .before .if1 .left) (set-timer (slotIn (c .before .before .before .before .before .args .client) (c .before .before .before .before .before .args .machine)) (c .before .before .before .before .before .args .moment .0)) _ (c .timer-number .ensures)

@@ -5,10 +5,10 @@ use Rattle.queue_peek.proofs.five.Delays.peek_scheduled_action.Statemen
 use Rattle.queue_peek.proofs.five.Delays.peek_scheduled_action.Tie as tie
 
 least-action-requires : tie.Need-least-action-requires
-least-action-requires c κs = search needs
+least-action-requires c κs = (search needs, c .before .pre .1)
 
 least-action-requires-2 : tie.Need-least-action-requires-2
-least-action-requires-2 c κs = search needs
+least-action-requires-2 c κs = (search needs, c .before .before .pre .1)
 
 earlier-requires : tie.Need-earlier-requires
 earlier-requires c κs = search needs

@@ -5,10 +5,10 @@ use Rattle.queue_peek.proofs.five.Delays.peek_scheduled_internal_timer.
 use Rattle.queue_peek.proofs.five.Delays.peek_scheduled_internal_timer.Tie as tie
 
 least-timer-requires : tie.Need-least-timer-requires
-least-timer-requires c κs = search needs
+least-timer-requires c κs = (search needs, c .before .pre .1)
 
 least-timer-requires-2 : tie.Need-least-timer-requires-2
-least-timer-requires-2 c κs = search needs
+least-timer-requires-2 c κs = (search needs, c .before .before .pre .1)
 
 earlier-requires : tie.Need-earlier-requires
 earlier-requires c κs = search needs
