@@ -13,11 +13,12 @@ ghost use Rattle.layout.specs.Accepted.{Good};
 ghost use Rattle.layout.specs.Layout.{stateFrom};
 ghost use Rattle.queue.specs.Heads.{PeekedBoth};
 ghost use Rattle.queue_peek.specs.Decoded.{delayOf, delaysOf};
-ghost use Rattle.candidate.specs.Promises.{Picked, Ahead, laterFitting};
+ghost use Rattle.candidate.specs.Promises.{Picked, TakenUp, Ahead, laterFitting};
 use crate::Candidate;
 use crate::FirstDue;
 use crate::Next;
 use crate::slots;
+use crate::sums;
 use moment::Moment;
 use queue::header;
 use queue::peek::Found;
@@ -91,16 +92,18 @@ fn aggregate_candidate(head: &[u64], rest: &[u64]) -> Next
     Next::Take(Candidate::Aggregate(a))
 }
 
-// The next block to end.
-fn block_candidate(head: &[u64]) -> Next
-    requires { ⌜ length (now head) ≡ 256 ⌝ }
-    ensures { λ r. ⌜ ((rs : List ℕ) → Picked (now (head .entry)) rs r (orNone aBlock (nextBlock (stateFrom (now (head .entry)) rs)))) ⌝ }
+// The next block to end. What waits behind it is looked through here, once for its sums and its aggregates.
+fn block_candidate(head: &[u64], rest: &[u64], time: Moment) -> Next
+    requires { ⌜ length (now head) ≡ 256 ⌝ ∗ ⌜ Good (now head) (now rest) ⌝ }
+    ensures { λ r. ⌜ TakenUp (now (head .entry)) (now (rest .entry)) (time .0) r (orNone aBlock (nextBlock (stateFrom (now (head .entry)) (now (rest .entry))))) ⌝ }
 {
     let next = queue_peek::next_block(head);
     let Blocked::Until(k) = next else {
         return Next::Nothing;
     };
-    Next::Take(Candidate::Block(k))
+    let end = k.end.later(time);
+    let by = sums::held_up(head, rest, k.client, end);
+    Next::Take(Candidate::Block(k, by))
 }
 
 // What the queues offer: the head that was found with its delay.
@@ -166,14 +169,14 @@ fn later_candidate(head: &[u64], rest: &[u64], d: Delays, time: Moment) -> Next
 // What a round takes up.
 pub fn candidate(head: &[u64], rest: &[u64], time: Moment) -> Next
     requires { ⌜ length (now head) ≡ 256 ⌝ ∗ ⌜ Good (now head) (now rest) ⌝ ∗ ⌜ time .0 ≤ momentLimit ⌝ }
-    ensures { λ r. ⌜ Picked (now (head .entry)) (now (rest .entry)) r (candidateAt (stateFrom (now (head .entry)) (now (rest .entry))) (time .0)) ⌝ }
+    ensures { λ r. ⌜ TakenUp (now (head .entry)) (now (rest .entry)) (time .0) r (candidateAt (stateFrom (now (head .entry)) (now (rest .entry))) (time .0)) ⌝ }
 {
     let d = queue_peek::delays(head, rest, time);
     if aggregate_first(d) {
         return aggregate_candidate(head, rest);
     }
     if block_first(d) {
-        return block_candidate(head);
+        return block_candidate(head, rest, time);
     }
     later_candidate(head, rest, d, time)
 }

@@ -2,7 +2,6 @@
 ghost use mathlib.Core.Path.{_≡_};
 ghost use mathlib.Core.Bool.{false as no};
 ghost use mathlib.Core.List.{List, [], _∷_};
-ghost use mathlib.Core.Option.{some};
 ghost use Prim.Native.Nat.{ℕ, _+_, _≤_};
 ghost use lib.ListN.{length};
 ghost use Rattle.rules.specs.Limits.{momentLimit, durationLimit};
@@ -16,7 +15,7 @@ ghost use Rattle.layout.specs.Layout.{stateFrom};
 ghost use Rattle.queue.specs.Heads.{sideHeld};
 ghost use Rattle.queue_peek.specs.Decoded.{blockFrom};
 ghost use Rattle.delay.specs.Tests.{delayedOf};
-ghost use Rattle.candidate.specs.Candidates.{actionValue, candidateOf, Stands};
+ghost use Rattle.candidate.specs.Candidates.{actionValue, candidateOf, heldUpAt, Stands, Reckoned};
 use crate::Candidate;
 use crate::Planned;
 use delay::Delayed;
@@ -83,18 +82,17 @@ fn aggregate_fits(head: &[u64], a: AggregateDelay) -> bool
     sum.plus(a.length).fits_sum()
 }
 
-// The moment of `BlockingEnd`, and those of the two aggregates.
-fn block_fits(head: &[u64], rest: &[u64], time: Moment, k: BlockEnd) -> bool
-    requires { ⌜ length (now head) ≡ 256 ⌝ ∗ ⌜ Good (now head) (now rest) ⌝ ∗ ⌜ time .0 ≤ momentLimit ⌝ }
-    requires { ⌜ sideHeld (now head) (now rest) (k .client) .blockEnd ≡ some (k .end .0) ⌝ }
-    ensures { λ r. ⌜ r ≡ fits (candidateSums (stateFrom (now (head .entry)) (now (rest .entry))) (time .0) (aBlock (blockFrom k))) ⌝ }
+// The moment of `BlockingEnd`, and those of the two aggregates where `by` is what the test finds.
+fn block_fits(head: &[u64], time: Moment, k: BlockEnd, by: Delayed) -> bool
+    requires { ⌜ length (now head) ≡ 256 ⌝ ∗ ⌜ Limited (now head) ⌝ ∗ ⌜ time .0 ≤ momentLimit ⌝ ∗ ⌜ k .end .0 ≤ momentLimit ⌝ }
+    ensures { λ r. ⌜ ((rs : List ℕ) → delayedOf by ≡ heldUpAt (stateFrom (now (head .entry)) rs) (time .0) (blockFrom k)
+        → r ≡ fits (candidateSums (stateFrom (now (head .entry)) rs) (time .0) (aBlock (blockFrom k)))) ⌝ }
 {
     let end = k.end.later(time);
     let reporting = header::of_side(head, header::REPORTING_DELAY, k.client);
     if !end.plus(Length(reporting)).fits() {
         return false;
     }
-    let by = held_up(head, rest, k.client, end);
     aggregate::fit(Length(head[0]), k.client, end, by)
 }
 
@@ -126,12 +124,13 @@ fn action_fits(head: &[u64], p: Planned) -> bool
 
 // The sums of what the round takes up.
 pub fn candidate_fits(head: &[u64], rest: &[u64], time: Moment, c: Candidate) -> bool
-    requires { ⌜ length (now head) ≡ 256 ⌝ ∗ ⌜ Good (now head) (now rest) ⌝ ∗ ⌜ time .0 ≤ momentLimit ⌝ ∗ ⌜ Stands (now head) (now rest) c ⌝ }
+    requires { ⌜ length (now head) ≡ 256 ⌝ ∗ ⌜ Good (now head) (now rest) ⌝ ∗ ⌜ time .0 ≤ momentLimit ⌝ }
+    requires { ⌜ Stands (now head) (now rest) c ⌝ ∗ ⌜ Reckoned (now head) (now rest) (time .0) c ⌝ }
     ensures { λ r. ⌜ r ≡ fits (candidateSums (stateFrom (now (head .entry)) (now (rest .entry))) (time .0) (candidateOf (now (head .entry)) c)) ⌝ }
 {
     match c {
         Candidate::Aggregate(a) => aggregate_fits(head, a),
-        Candidate::Block(k) => block_fits(head, rest, time, k),
+        Candidate::Block(k, by) => block_fits(head, time, k, by),
         Candidate::Event(_) => true,
         Candidate::Timer(_) => true,
         Candidate::Action(p) => action_fits(head, p),

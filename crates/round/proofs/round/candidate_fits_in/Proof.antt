@@ -18,7 +18,7 @@ part-candidate-fits-end : tie.Need-part-candidate-fits-end
 part-candidate-fits-end c = search needs
 
 candidate-fits-requires : tie.Need-candidate-fits-requires
-candidate-fits-requires c κs = (head-length (c .before .before .before .args .block .now) (c .before .before .before .pre .0 .size .least), (rw rest-part (c .before .before .before .pre .0 .good), (c .before .before .before .pre .1 .0, rw rest-part (c .before .before .before .pre .1 .1))))
+candidate-fits-requires c κs = (head-length (c .before .before .before .args .block .now) (c .before .before .before .pre .0 .size .least), (rw rest-part (c .before .before .before .pre .0 .good), (c .before .before .before .pre .1 .0, (rw rest-part (c .before .before .before .pre .1 .1 .0), rw rest-part (c .before .before .before .pre .1 .1 .1)))))
 
 returns : tie.Need-returns
 returns c = rw rest-part at (c .candidate-fits .ensures)
