@@ -1,9 +1,9 @@
 -- The sums of an action, and of each case. Assumes nothing.
 use Prim.Native.Nat.{ℕ, zero, suc, _+_, _*_, _^_, _<_, _≤_}
-use mathlib.Core.Path.{_≡_, refl, sym, ap, ap₂, subst, _∙_}
+use mathlib.Core.Path.{_≡_, refl, sym, ap, ap₂, subst, subst⁻¹, _∙_}
 use mathlib.Core.Bool.{Bool, true, false, _&&_}
 use mathlib.Core.List.{List, [], _∷_}
-use mathlib.Core.Option.{Option, none, some}
+use mathlib.Core.Option.{Option, none, some, Option·getD}
 use native.Mathlib.Omega.{arith}
 use lib.Dec.{leb}
 use lib.ListN.{getD}
@@ -22,12 +22,15 @@ use Rattle.queue.specs.declared.peek.Head.{Head}
 use Rattle.queue.specs.Heads.{sideHeld}
 use Rattle.queue_peek.specs.declared.blocks.BlockEnd.{BlockEnd}
 use Rattle.queue_peek.specs.Decoded.{blockFrom}
+use Rattle.delay.specs.declared.Delayed.{Delayed}
+use Rattle.delay.specs.Tests.{delayedOf}
 use Rattle.layout.proofs.Banks.{bank-at}
+use Rattle.queue_peek.proofs.BlockLaws.{end-small}
 use Rattle.candidate.specs.declared.Due.{Due}
 use Rattle.candidate.specs.declared.Planned.{Planned}
 use Rattle.candidate.specs.declared.Candidate.{Candidate}
 use Rattle.candidate.specs.declared.Candidate.the-variants.{Aggregate as AnAggregate, Block as ABlock, Event as AnEvent, Timer as ATimer, Action as AnAction}
-use Rattle.candidate.specs.Candidates.{actionValue, candidateOf, Stands}
+use Rattle.candidate.specs.Candidates.{actionValue, candidateOf, heldUpAt, Stands, Reckoned}
 use Rattle.candidate.specs.Promises.{plannedIn}
 use Rattle.candidate.proofs.SlotLaws.{side-small}
 use Rattle.candidate.proofs.AheadLaws.{moment-small}
@@ -121,30 +124,38 @@ module _ (h rs : List ℕ) (c : Candidate) (g : Good h rs) (s : Stands h rs c) w
   unfolding Within
   stands-duration p e = planned-held p e .1
 
-pub stands-block : (h rs : List ℕ) (c : Candidate) (k : BlockEnd) → c ≡ ABlock k → Stands h rs c → sideHeld h rs (k .client) .blockEnd ≡ some (k .end .0)
+pub stands-end : (h rs : List ℕ) (c : Candidate) (t : ℕ) (k : BlockEnd) (by : Delayed) → c ≡ ABlock k by → Good h rs → t ≤ momentLimit → Stands h rs c → k .end .0 ≤ momentLimit
 unfolding Stands
-stands-block h rs c k e s = subst (Stands h rs) e s
+stands-end h rs c t k by e g l s = subst (λ o. Option·getD o t ≤ momentLimit) (subst (Stands h rs) e s) (end-small h rs (k .client) t g l)
 
 -- ---- the cases
 
-module _ (h rs : List ℕ) (t : ℕ) (c : Candidate) (r : Bool) where
-  pub case-aggregate : (a : AggregateDelay) → c ≡ AnAggregate a → ((ws : List ℕ) → r ≡ fits (raisedSum (stateFrom h ws) (aggregateIn a) ∷ [])) → r ≡ fits (candidateSums (stateFrom h rs) t (candidateOf h c))
-  unfolding candidateOf
-  case-aggregate a e f = f rs ∙ sym (ap (λ (x : Candidate). fits (candidateSums (stateFrom h rs) t (candidateOf h x))) e)
+module _ (h : List ℕ) (t : ℕ) (c : Candidate) where
+  -- the sums of the candidate
+  abbrev Sums : Candidate → Bool → List ℕ → Type 0
+  Sums x r rs = r ≡ fits (candidateSums (stateFrom h rs) t (candidateOf h x))
 
-  pub case-block : (k : BlockEnd) → c ≡ ABlock k → r ≡ fits (candidateSums (stateFrom h rs) t (aBlock (blockFrom k))) → r ≡ fits (candidateSums (stateFrom h rs) t (candidateOf h c))
-  unfolding candidateOf
-  case-block k e f = f ∙ sym (ap (λ (x : Candidate). fits (candidateSums (stateFrom h rs) t (candidateOf h x))) e)
+  told : (x : Candidate) → c ≡ x → (r : Bool) → ((rs : List ℕ) → Reckoned h rs t x → Sums x r rs) → (rs : List ℕ) → Reckoned h rs t c → Sums c r rs
+  told x e r f = subst⁻¹ (λ (y : Candidate). (rs : List ℕ) → Reckoned h rs t y → Sums y r rs) e f
 
-  pub case-action : (p : Planned) → c ≡ AnAction p → ((ws : List ℕ) → r ≡ fits (actionSums (actionValue (p .action) .kind) (sideHeld h ws (p .client)) (actionValue (p .action)))) → r ≡ fits (candidateSums (stateFrom h rs) t (candidateOf h c))
-  unfolding candidateOf
-  case-action p e f = f rs ∙ sym (ap (λ (x : Candidate). fits (candidateSums (stateFrom h rs) t (candidateOf h x))) e)
+  module _ (r : Bool) where
+    pub case-aggregate : (a : AggregateDelay) → c ≡ AnAggregate a → ((ws : List ℕ) → r ≡ fits (raisedSum (stateFrom h ws) (aggregateIn a) ∷ [])) → (rs : List ℕ) → Reckoned h rs t c → Sums c r rs
+    unfolding candidateOf
+    case-aggregate a e f = told (AnAggregate a) e r (λ rs q. f rs)
 
-module _ (h rs : List ℕ) (t : ℕ) (c : Candidate) where
-  pub case-event : (x : Head) → c ≡ AnEvent x → true ≡ fits (candidateSums (stateFrom h rs) t (candidateOf h c))
+    pub case-block : (k : BlockEnd) (by : Delayed) → c ≡ ABlock k by
+        → ((ws : List ℕ) → delayedOf by ≡ heldUpAt (stateFrom h ws) t (blockFrom k) → r ≡ fits (candidateSums (stateFrom h ws) t (aBlock (blockFrom k)))) → (rs : List ℕ) → Reckoned h rs t c → Sums c r rs
+    unfolding candidateOf Reckoned
+    case-block k by e f = told (ABlock k by) e r f
+
+    pub case-action : (p : Planned) → c ≡ AnAction p → ((ws : List ℕ) → r ≡ fits (actionSums (actionValue (p .action) .kind) (sideHeld h ws (p .client)) (actionValue (p .action)))) → (rs : List ℕ) → Reckoned h rs t c → Sums c r rs
+    unfolding candidateOf
+    case-action p e f = told (AnAction p) e r (λ rs q. f rs)
+
+  pub case-event : (x : Head) → c ≡ AnEvent x → (rs : List ℕ) → Reckoned h rs t c → Sums c true rs
   unfolding candidateOf fits
-  case-event x e = sym (ap (λ (y : Candidate). fits (candidateSums (stateFrom h rs) t (candidateOf h y))) e)
+  case-event x e = told (AnEvent x) e true (λ rs q. refl)
 
-  pub case-timer : (d : Due) → c ≡ ATimer d → true ≡ fits (candidateSums (stateFrom h rs) t (candidateOf h c))
+  pub case-timer : (d : Due) → c ≡ ATimer d → (rs : List ℕ) → Reckoned h rs t c → Sums c true rs
   unfolding candidateOf fits
-  case-timer d e = sym (ap (λ (y : Candidate). fits (candidateSums (stateFrom h rs) t (candidateOf h y))) e)
+  case-timer d e = told (ATimer d) e true (λ rs q. refl)

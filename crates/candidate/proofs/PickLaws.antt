@@ -1,5 +1,5 @@
 -- What a round takes up, case by case. Assumes nothing.
-use Prim.Native.Nat.{ℕ, zero, suc, _+_, _^_, _<_}
+use Prim.Native.Nat.{ℕ, zero, suc, max, _+_, _^_, _<_}
 use mathlib.Core.Path.{_≡_, refl, sym, ap, subst, _∙_}
 use mathlib.Core.Bool.{Bool, true, false}
 use mathlib.Core.List.{List, head?, map}
@@ -8,9 +8,9 @@ use native.Mathlib.Omega.{arith}
 use lib.Dec.{ltb}
 use Rattle.rules.specs.Basics.{if_then_else_}
 use Rattle.rules.specs.State.{State, side}
-use Rattle.rules.specs.ChoiceHeads.{Head as RulesHead}
+use Rattle.rules.specs.ChoiceHeads.{Head as RulesHead, waitingHead}
 use Rattle.rules.specs.ChoiceDelays.{nextBlock, firstBlock, Block}
-use Rattle.rules.specs.ChoiceRound.{Slot, orNone, anAggregate, aBlock, anEvent, aTimer, dueTimer, dueAction, timerSlot, actionSlot, actionFrom, Candidate as RulesCandidate}
+use Rattle.rules.specs.ChoiceRound.{Slot, orNone, anAggregate, aBlock, anEvent, aTimer, dueTimer, dueAction, timerSlot, actionSlot, actionFrom, endMoment, heldUpLength, Candidate as RulesCandidate}
 use Rattle.moment.specs.declared.Length.{Length}
 use Rattle.moment.specs.declared.Moment.{Moment}
 use Rattle.event.specs.declared.AggregateDelay.{AggregateDelay}
@@ -23,13 +23,15 @@ use Rattle.layout.specs.Layout.{sideAt, aggregateFrom, heldAggregate, stateFrom
 use Rattle.queue.specs.declared.peek.Head.{Head}
 use Rattle.queue.specs.declared.peek.Found.{Found}
 use Rattle.queue.specs.declared.peek.Found.the-variants.{Nothing as NotFound, At}
-use Rattle.queue.specs.Heads.{foundOf, PeekedBoth}
+use Rattle.queue.specs.Heads.{foundOf, sideHeld, PeekedBoth}
 use Rattle.queue_peek.specs.declared.order.Delay.{Delay}
 use Rattle.queue_peek.specs.declared.order.Delay.the-variants.{Absent, In}
 use Rattle.queue_peek.specs.declared.blocks.BlockEnd.{BlockEnd}
 use Rattle.queue_peek.specs.declared.blocks.Blocked.{Blocked}
 use Rattle.queue_peek.specs.declared.blocks.Blocked.the-variants.{Nothing as NotBlocked, Until}
-use Rattle.queue_peek.specs.Decoded.{delayOf, blockedOf}
+use Rattle.queue_peek.specs.Decoded.{delayOf, blockFrom, blockedOf}
+use Rattle.delay.specs.declared.Delayed.{Delayed}
+use Rattle.delay.specs.Tests.{delayedOf}
 use Rattle.queue_event.proofs.Laws.{nodes-next}
 use Rattle.layout.proofs.Banks.{chains-at}
 use Rattle.queue.proofs.HeadsOrder.{stands-on-at}
@@ -39,8 +41,8 @@ use Rattle.candidate.specs.declared.FirstDue.the-variants.{At as AtSlot,
 use Rattle.candidate.specs.declared.Next.{Next}
 use Rattle.candidate.specs.declared.Next.the-variants.{Take, Nothing}
 use Rattle.candidate.specs.declared.Candidate.the-variants.{Aggregate as AnAggregate, Block as ABlock, Event as AnEvent, Timer as ATimer}
-use Rattle.candidate.specs.Candidates.{dueSlot, candidateOf, nextOf, Stands, NextStands}
-use Rattle.candidate.specs.Promises.{dueOf, DueWhen, DueTimer, DueAction, Picked, Ahead}
+use Rattle.candidate.specs.Candidates.{dueSlot, candidateOf, nextOf, Stands, Reckoned, NextStands, NextReckoned}
+use Rattle.candidate.specs.Promises.{dueOf, DueWhen, DueTimer, DueAction, Picked, TakenUp, Ahead}
 use Rattle.candidate.proofs.SlotLaws.{timer-one}
 
 -- the same of an equal candidate
@@ -98,16 +100,22 @@ next-ends s = go (s .client .blockEnd) (s .server .blockEnd) refl refl
         choose true = ec
         choose false = er
 
-module _ (h : List ℕ) (k : Blocked) (ek : (rs : List ℕ) → blockedOf k ≡ nextBlock (stateFrom h rs)) where
-  pub block-none : k ≡ NotBlocked → (rs : List ℕ) → Picked h rs Nothing (orNone aBlock (nextBlock (stateFrom h rs)))
-  unfolding nextOf NextStands blockedOf
-  block-none e rs = record { is = ap (orNone aBlock) (ap blockedOf (sym e) ∙ ek rs); stands = tt }
+module _ (h rs : List ℕ) (t : ℕ) (k : Blocked) (ek : (ws : List ℕ) → blockedOf k ≡ nextBlock (stateFrom h ws)) where
+  pub block-none : k ≡ NotBlocked → TakenUp h rs t Nothing (orNone aBlock (nextBlock (stateFrom h rs)))
+  unfolding nextOf NextStands NextReckoned blockedOf
+  block-none e = record { picked = record { is = ap (orNone aBlock) (ap blockedOf (sym e) ∙ ek rs); stands = tt }; reckoned = tt }
 
-  pub block-some : (z : BlockEnd) → k ≡ Until z → (rs : List ℕ) → Picked h rs (Take (ABlock z)) (orNone aBlock (nextBlock (stateFrom h rs)))
-  unfolding nextOf NextStands candidateOf Stands blockedOf Ends
-  block-some z e rs =
+  pub block-some : (z : BlockEnd) (end : ℕ) (by : Delayed) → k ≡ Until z → end ≡ max (z .end .0) t
+      → delayedOf by ≡ heldUpLength (sideHeld h rs (z .client)) end (waitingHead false (sideHeld h rs (z .client)))
+      → TakenUp h rs t (Take (ABlock z by)) (orNone aBlock (nextBlock (stateFrom h rs)))
+  unfolding nextOf NextStands NextReckoned candidateOf Stands Reckoned blockedOf Ends
+  block-some z end by e ee eb =
       let q = ap blockedOf (sym e) ∙ ek rs in
-      record { is = ap (orNone aBlock) q; stands = subst (Ends (stateFrom h rs)) (sym q) (next-ends (stateFrom h rs)) }
+      let late : end ≡ endMoment t (blockFrom z) = omega arith in
+      record {
+        picked = record { is = ap (orNone aBlock) q; stands = subst (Ends (stateFrom h rs)) (sym q) (next-ends (stateFrom h rs)) };
+        reckoned = eb ∙ ap (λ i. heldUpLength (sideHeld h rs (z .client)) i (waitingHead false (sideHeld h rs (z .client)))) late;
+      }
 
 -- ---- what the queues offer
 

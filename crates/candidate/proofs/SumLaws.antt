@@ -1,9 +1,9 @@
 -- The sums of a round held to the limit. Assumes nothing.
 use Prim.Native.Nat.{ℕ, max, _+_, _-_, _^_, _<_, _≤_}
-use mathlib.Core.Path.{_≡_, refl, sym, ap, ap₂, subst, _∙_}
+use mathlib.Core.Path.{_≡_, refl, sym, ap, ap₂, _∙_}
 use mathlib.Core.Bool.{Bool, true, false, not, _&&_}
 use mathlib.Core.List.{List, [], _∷_}
-use mathlib.Core.Option.{none, some, Option·getD}
+use mathlib.Core.Option.{none}
 use native.Mathlib.Omega.{arith}
 use lib.Dec.{leb, ltb}
 use lib.ListN.{getD}
@@ -12,11 +12,10 @@ use Rattle.rules.specs.Basics.{if_then_else_}
 use Rattle.rules.specs.Limits.{momentLimit, durationLimit}
 use Rattle.rules.specs.Aggregates.{baseMoment, onExpire, aggregatesOf, someSum}
 use Rattle.rules.specs.ChoiceHeads.{waitingHead}
-use Rattle.rules.specs.ChoiceRound.{fits, alwaysSums, candidateSums, raisedSum, heldUpLength, aBlock}
+use Rattle.rules.specs.ChoiceRound.{fits, alwaysSums, candidateSums, raisedSum, endMoment, heldUpLength, aBlock}
 use Rattle.event.specs.declared.AggregateDelay.{AggregateDelay}
 use Rattle.event.specs.HandedIn.{sideOf, aggregateIn}
 use Rattle.layout.specs.Header.{Limited}
-use Rattle.layout.specs.Accepted.{Good}
 use Rattle.layout.specs.Changes.{sideNo}
 use Rattle.layout.specs.Layout.{bank, stateFrom}
 use Rattle.queue.specs.declared.peek.Head.{Head}
@@ -31,9 +30,9 @@ use Rattle.delay.specs.declared.Delayed.{Delayed}
 use Rattle.delay.specs.Tests.{baseOf, delayedOf, usualMargins, expireOver}
 use Rattle.network.specs.Due.{moments}
 use Rattle.queue.proofs.HeadsSides.{sum-held}
-use Rattle.queue_peek.proofs.BlockLaws.{end-small}
 use Rattle.delay.proofs.Rules.{expire-usual}
 use Rattle.network.proofs.DueLaws.{fits-append}
+use Rattle.candidate.specs.Candidates.{heldUpAt}
 
 and-one : (t : Bool) → t ≡ t && true
 and-one true = refl
@@ -57,8 +56,8 @@ pub reporting-within : (h : List ℕ) (b : Bool) (w : ℕ) → Limited h → w �
 reporting-within h true w l e = rw e (l 6 (omega arith))
 reporting-within h false w l e = rw e (l 7 (omega arith))
 
-pub network-within : (h rs : List ℕ) → Good h rs → getD h 0 0 ≤ durationLimit
-network-within h rs g = g .limits 0 (omega arith)
+pub network-within : (h : List ℕ) → Limited h → getD h 0 0 ≤ durationLimit
+network-within h l = l 0 (omega arith)
 
 -- ---- the base head plus the sum
 
@@ -145,40 +144,30 @@ network-held h rs = refl
 -- when the aggregates of the block's end are due
 abbrev dueAt : List ℕ → List ℕ → ℕ → BlockEnd → List ℕ
 dueAt h rs t k =
-    moments
-    (aggregatesOf
-    (stateFrom h rs .settings .networkDelay)
-    (sideOf (k .client))
-    (t + (k .end .0 - t))
-    (heldUpLength (sideHeld h rs (k .client)) (t + (k .end .0 - t)) (waitingHead false (sideHeld h rs (k .client)))))
+    moments (aggregatesOf (stateFrom h rs .settings .networkDelay) (sideOf (k .client)) (endMoment t (blockFrom k)) (heldUpAt (stateFrom h rs) t (blockFrom k)))
 
-module _ (h rs : List ℕ) (t : ℕ) (k : BlockEnd) (end : ℕ) (ee : end ≡ max (k .end .0) t) where
-  pub end-within : Good h rs → t ≤ momentLimit → sideHeld h rs (k .client) .blockEnd ≡ some (k .end .0) → end ≤ momentLimit
-  end-within g l e =
-      let s : k .end .0 ≤ momentLimit = subst (λ o. Option·getD o t ≤ momentLimit) e (end-small h rs (k .client) t g l) in
-      omega arith
+module _ (h : List ℕ) (t : ℕ) (k : BlockEnd) (end : ℕ) (ee : end ≡ max (k .end .0) t) where
+  pub end-within : t ≤ momentLimit → k .end .0 ≤ momentLimit → end ≤ momentLimit
+  end-within l e = omega arith
 
-  pub end-fits : (b : Bool) (w : ℕ) → w ≡ getD h (6 + sideNo (sideOf b)) 0 → Good h rs → t ≤ momentLimit → sideHeld h rs (k .client) .blockEnd ≡ some (k .end .0) → end + w < 2 ^ 64
-  end-fits b w ew g l e = omega (arith, end-within g l e, reporting-within h b w (g .limits) ew)
+  pub end-fits : (b : Bool) (w : ℕ) → w ≡ getD h (6 + sideNo (sideOf b)) 0 → Limited h → t ≤ momentLimit → k .end .0 ≤ momentLimit → end + w < 2 ^ 64
+  end-fits b w ew g l e = omega (arith, end-within l e, reporting-within h b w g ew)
 
   module _ (w : ℕ) (ew : w ≡ getD h (6 + sideNo (sideOf (k .client))) 0) where
-    module _ (n : ℕ) (x : Bool) (en : n ≡ end + w) (ex : x ≡ leb n momentLimit) where
+    module _ (n : ℕ) (x : Bool) (en : n ≡ end + w) (ex : x ≡ leb n momentLimit) (by : Delayed) where
       late : end ≡ t + (k .end .0 - t)
       late = omega arith
 
-      sent : leb ((t + (k .end .0 - t)) + sideHeld h rs (k .client) .fixed .reportingDelay) momentLimit ≡ x
-      sent = sym (ex ∙ ap (λ i. leb i momentLimit) (en ∙ ap₂ _+_ late (ew ∙ sym (reporting-held h rs (k .client)))))
+      sent : (rs : List ℕ) → leb ((t + (k .end .0 - t)) + sideHeld h rs (k .client) .fixed .reportingDelay) momentLimit ≡ x
+      sent rs = sym (ex ∙ ap (λ i. leb i momentLimit) (en ∙ ap₂ _+_ late (ew ∙ sym (reporting-held h rs (k .client)))))
 
-      pub block-late : not x ≡ true → false ≡ fits (candidateSums (stateFrom h rs) t (aBlock (blockFrom k)))
+      pub block-late : not x ≡ true → (rs : List ℕ) → delayedOf by ≡ heldUpAt (stateFrom h rs) t (blockFrom k) → false ≡ fits (candidateSums (stateFrom h rs) t (aBlock (blockFrom k)))
       unfolding fits
-      block-late f = sym (ap (λ (b : Bool). b && fits (dueAt h rs t k)) (sent ∙ not-true x f))
+      block-late f rs eb = sym (ap (λ (b : Bool). b && fits (dueAt h rs t k)) (sent rs ∙ not-true x f))
 
-      pub block-due : (d : Delayed) (r : Bool) → not x ≡ false → delayedOf d ≡ heldUpLength (sideHeld h rs (k .client)) end (waitingHead false (sideHeld h rs (k .client)))
-          → r ≡ fits (moments (aggregatesOf (getD h 0 0) (sideOf (k .client)) end (delayedOf d))) → r ≡ fits (candidateSums (stateFrom h rs) t (aBlock (blockFrom k)))
+      pub block-due : (r : Bool) → not x ≡ false → r ≡ fits (moments (aggregatesOf (getD h 0 0) (sideOf (k .client)) end (delayedOf by)))
+          → (rs : List ℕ) → delayedOf by ≡ heldUpAt (stateFrom h rs) t (blockFrom k) → r ≡ fits (candidateSums (stateFrom h rs) t (aBlock (blockFrom k)))
       unfolding fits
-      block-due d r f ed er =
-          er ∙ (λ i. fits (moments (aggregatesOf (sym (network-held h rs) i) (sideOf (k .client)) (late i) (due i))))
-          ∙ sym (ap (λ (b : Bool). b && fits (dueAt h rs t k)) (sent ∙ not-false x f))
-        where
-          due : delayedOf d ≡ heldUpLength (sideHeld h rs (k .client)) (t + (k .end .0 - t)) (waitingHead false (sideHeld h rs (k .client)))
-          due = ed ∙ ap (λ i. heldUpLength (sideHeld h rs (k .client)) i (waitingHead false (sideHeld h rs (k .client)))) late
+      block-due r f er rs eb =
+          er ∙ (λ i. fits (moments (aggregatesOf (sym (network-held h rs) i) (sideOf (k .client)) (late i) (eb i))))
+          ∙ sym (ap (λ (b : Bool). b && fits (dueAt h rs t k)) (sent rs ∙ not-false x f))

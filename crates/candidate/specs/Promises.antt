@@ -18,7 +18,7 @@ use Rattle.candidate.specs.declared.Machine.the-variants.{At as AtMachin
 use Rattle.candidate.specs.declared.FirstDue.{FirstDue}
 use Rattle.candidate.specs.declared.FirstDue.the-variants.{At as AtSlot, Nothing as NoSlot}
 use Rattle.candidate.specs.declared.Next.{Next}
-use Rattle.candidate.specs.Candidates.{dueSlot, nextOf, NextStands}
+use Rattle.candidate.specs.Candidates.{dueSlot, nextOf, NextStands, NextReckoned}
 
 -- ---- slots
 
@@ -81,6 +81,11 @@ pub record DueAction (h : List ℕ) (t : ℕ) (r : FirstDue) : Type 0 where
 pub record Picked (h rs : List ℕ) (r : Next) (c : Candidate) : Type 0 where
   pub is : nextOf h r ≡ c
   pub stands : NextStands h rs r
+
+-- and a block's end comes with what the test at it finds, where the round is made at the time t
+pub record TakenUp (h rs : List ℕ) (t : ℕ) (r : Next) (c : Candidate) : Type 0 where
+  pub picked : Picked h rs r c
+  pub reckoned : NextReckoned h rs t r
 
 -- a delay from t ends within the limit
 unfoldable pub Ahead : ℕ → Delay → Type 0

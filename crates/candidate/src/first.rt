@@ -1,26 +1,31 @@
 // Which of the five a round takes up: the first that fits.
 ghost use mathlib.Core.Path.{_≡_};
+ghost use mathlib.Core.Bool.{false as no};
 ghost use mathlib.Core.List.{List, head?};
 ghost use mathlib.Core.Option.{Option};
 ghost use Prim.Native.Nat.{ℕ, _≤_};
 ghost use lib.ListN.{length};
 ghost use Rattle.rules.specs.Limits.{momentLimit};
-ghost use Rattle.rules.specs.ChoiceHeads.{Head};
+ghost use Rattle.rules.specs.ChoiceHeads.{Head, waitingHead};
 ghost use Rattle.rules.specs.ChoiceDelays.{delays as delaysAt, nextBlock};
 ghost use Rattle.rules.specs.ChoiceDelays.{offered as offeredAt};
-ghost use Rattle.rules.specs.ChoiceRound.{candidate as candidateAt, aggregateFirst, blockFirst, eventFirst, orNone, anAggregate, aBlock, anEvent, dueTimer, dueAction};
+ghost use Rattle.rules.specs.ChoiceRound.{candidate as candidateAt, aggregateFirst, blockFirst, eventFirst, orNone, anAggregate, aBlock, anEvent, dueTimer, dueAction, heldUpLength};
 ghost use Rattle.layout.specs.Accepted.{Good};
 ghost use Rattle.layout.specs.Header.{Limited, SlotsOk};
 ghost use Rattle.layout.specs.Layout.{stateFrom};
-ghost use Rattle.queue.specs.Heads.{PeekedBoth};
+ghost use Rattle.queue.specs.Heads.{PeekedBoth, sideHeld};
 ghost use Rattle.queue_peek.specs.Decoded.{delayOf, delaysOf};
-ghost use Rattle.candidate.specs.Promises.{Picked, Ahead, laterFitting};
+ghost use Rattle.delay.specs.Tests.{delayedOf};
+ghost use Rattle.candidate.specs.Promises.{Picked, TakenUp, Ahead, laterFitting};
 use crate::Candidate;
 use crate::FirstDue;
 use crate::Next;
 use crate::slots;
+use delay::Delayed;
+use moment::Length;
 use moment::Moment;
 use queue::header;
+use queue::peek;
 use queue::peek::Found;
 use queue_event::read;
 use queue_peek::blocks::Blocked;
@@ -92,16 +97,35 @@ fn aggregate_candidate(head: &[u64], rest: &[u64]) -> Next
     Next::Take(Candidate::Aggregate(a))
 }
 
-// The next block to end.
-fn block_candidate(head: &[u64]) -> Next
-    requires { ⌜ length (now head) ≡ 256 ⌝ }
-    ensures { λ r. ⌜ ((rs : List ℕ) → Picked (now (head .entry)) rs r (orNone aBlock (nextBlock (stateFrom (now (head .entry)) rs)))) ⌝ }
+// What the test at a block's end finds.
+fn held_up(head: &[u64], rest: &[u64], client: bool, end: Moment) -> Delayed
+    requires { ⌜ length (now head) ≡ 256 ⌝ ∗ ⌜ Good (now head) (now rest) ⌝ }
+    ensures { λ r. ⌜ delayedOf r ≡ heldUpLength (sideHeld (now (head .entry)) (now (rest .entry)) client) (end .0) (waitingHead no (sideHeld (now (head .entry)) (now (rest .entry)) client)) ⌝ }
+{
+    let waiting = peek::peek_blocking(head, rest, false, client);
+    let Found::At(h) = waiting else {
+        return Delayed::Nothing;
+    };
+    if !h.moment.before(end) {
+        return Delayed::Nothing;
+    }
+    let sum = header::of_side(head, header::SUM, client);
+    let margins = delay::usual();
+    delay::agg_delay_on_blocking_expire(head, rest, client, end, h.moment, Length(sum), margins)
+}
+
+// The next block to end. What waits behind it is looked through here, once for its sums and its aggregates.
+fn block_candidate(head: &[u64], rest: &[u64], time: Moment) -> Next
+    requires { ⌜ length (now head) ≡ 256 ⌝ ∗ ⌜ Good (now head) (now rest) ⌝ }
+    ensures { λ r. ⌜ TakenUp (now (head .entry)) (now (rest .entry)) (time .0) r (orNone aBlock (nextBlock (stateFrom (now (head .entry)) (now (rest .entry))))) ⌝ }
 {
     let next = queue_peek::next_block(head);
     let Blocked::Until(k) = next else {
         return Next::Nothing;
     };
-    Next::Take(Candidate::Block(k))
+    let end = k.end.later(time);
+    let by = held_up(head, rest, k.client, end);
+    Next::Take(Candidate::Block(k, by))
 }
 
 // What the queues offer: the head that was found with its delay.
@@ -167,14 +191,14 @@ fn later_candidate(head: &[u64], rest: &[u64], d: Delays, time: Moment) -> Next
 // What a round takes up.
 pub fn candidate(head: &[u64], rest: &[u64], time: Moment) -> Next
     requires { ⌜ length (now head) ≡ 256 ⌝ ∗ ⌜ Good (now head) (now rest) ⌝ ∗ ⌜ time .0 ≤ momentLimit ⌝ }
-    ensures { λ r. ⌜ Picked (now (head .entry)) (now (rest .entry)) r (candidateAt (stateFrom (now (head .entry)) (now (rest .entry))) (time .0)) ⌝ }
+    ensures { λ r. ⌜ TakenUp (now (head .entry)) (now (rest .entry)) (time .0) r (candidateAt (stateFrom (now (head .entry)) (now (rest .entry))) (time .0)) ⌝ }
 {
     let d = queue_peek::delays(head, rest, time);
     if aggregate_first(d) {
         return aggregate_candidate(head, rest);
     }
     if block_first(d) {
-        return block_candidate(head);
+        return block_candidate(head, rest, time);
     }
     later_candidate(head, rest, d, time)
 }

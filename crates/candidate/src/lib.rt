@@ -1,6 +1,7 @@
 // What a round of a choice takes up: the candidate, and the sums that number 10 looks at.
 ghost use mathlib.Core.Path.{_≡_};
 ghost use Prim.Native.Nat.{_%_};
+use delay::Delayed;
 use event::AggregateDelay;
 use event::ScheduledAction;
 use moment::Moment;
@@ -40,7 +41,8 @@ pub struct Planned {
 // What a round takes up.
 pub enum Candidate {
     Aggregate(AggregateDelay),
-    Block(BlockEnd),
+    // A block's end, with what the test at it finds.
+    Block(BlockEnd, Delayed),
     Event(Head),
     Timer(Due),
     Action(Planned),

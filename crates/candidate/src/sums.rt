@@ -1,14 +1,11 @@
 // The sums that number 10 looks at: those of every round, and those of what it takes up.
 ghost use mathlib.Core.Path.{_≡_};
-ghost use mathlib.Core.Bool.{false as no};
 ghost use mathlib.Core.List.{List, [], _∷_};
-ghost use mathlib.Core.Option.{some};
 ghost use Prim.Native.Nat.{ℕ, _+_, _≤_};
 ghost use lib.ListN.{length};
 ghost use Rattle.rules.specs.Limits.{momentLimit, durationLimit};
 ghost use Rattle.rules.specs.Aggregates.{baseMoment, someSum};
-ghost use Rattle.rules.specs.ChoiceHeads.{waitingHead};
-ghost use Rattle.rules.specs.ChoiceRound.{fits, alwaysSums, candidateSums, raisedSum, actionSums, heldUpLength, aBlock};
+ghost use Rattle.rules.specs.ChoiceRound.{fits, alwaysSums, candidateSums, raisedSum, actionSums, aBlock};
 ghost use Rattle.event.specs.HandedIn.{aggregateIn};
 ghost use Rattle.layout.specs.Accepted.{Good};
 ghost use Rattle.layout.specs.Header.{Limited};
@@ -16,7 +13,7 @@ ghost use Rattle.layout.specs.Layout.{stateFrom};
 ghost use Rattle.queue.specs.Heads.{sideHeld};
 ghost use Rattle.queue_peek.specs.Decoded.{blockFrom};
 ghost use Rattle.delay.specs.Tests.{delayedOf};
-ghost use Rattle.candidate.specs.Candidates.{actionValue, candidateOf, Stands};
+ghost use Rattle.candidate.specs.Candidates.{actionValue, candidateOf, heldUpAt, Stands, Reckoned};
 use crate::Candidate;
 use crate::Planned;
 use delay::Delayed;
@@ -26,8 +23,6 @@ use moment::Length;
 use moment::Moment;
 use network::aggregate;
 use queue::header;
-use queue::peek;
-use queue::peek::Found;
 use queue_peek::blocks::BlockEnd;
 
 // The base head of a side plus its sum.
@@ -54,23 +49,6 @@ pub fn always_fits(head: &[u64], rest: &[u64]) -> bool
     base_fits(head, rest, false)
 }
 
-// What the test at a block's end finds.
-pub fn held_up(head: &[u64], rest: &[u64], client: bool, end: Moment) -> Delayed
-    requires { ⌜ length (now head) ≡ 256 ⌝ ∗ ⌜ Good (now head) (now rest) ⌝ }
-    ensures { λ r. ⌜ delayedOf r ≡ heldUpLength (sideHeld (now (head .entry)) (now (rest .entry)) client) (end .0) (waitingHead no (sideHeld (now (head .entry)) (now (rest .entry)) client)) ⌝ }
-{
-    let waiting = peek::peek_blocking(head, rest, false, client);
-    let Found::At(h) = waiting else {
-        return Delayed::Nothing;
-    };
-    if !h.moment.before(end) {
-        return Delayed::Nothing;
-    }
-    let sum = header::of_side(head, header::SUM, client);
-    let margins = delay::usual();
-    delay::agg_delay_on_blocking_expire(head, rest, client, end, h.moment, Length(sum), margins)
-}
-
 // An aggregate's length on top of its side's sum. A length above the limit is not added.
 fn aggregate_fits(head: &[u64], a: AggregateDelay) -> bool
     requires { ⌜ length (now head) ≡ 256 ⌝ ∗ ⌜ Limited (now head) ⌝ }
@@ -83,18 +61,17 @@ fn aggregate_fits(head: &[u64], a: AggregateDelay) -> bool
     sum.plus(a.length).fits_sum()
 }
 
-// The moment of `BlockingEnd`, and those of the two aggregates.
-fn block_fits(head: &[u64], rest: &[u64], time: Moment, k: BlockEnd) -> bool
-    requires { ⌜ length (now head) ≡ 256 ⌝ ∗ ⌜ Good (now head) (now rest) ⌝ ∗ ⌜ time .0 ≤ momentLimit ⌝ }
-    requires { ⌜ sideHeld (now head) (now rest) (k .client) .blockEnd ≡ some (k .end .0) ⌝ }
-    ensures { λ r. ⌜ r ≡ fits (candidateSums (stateFrom (now (head .entry)) (now (rest .entry))) (time .0) (aBlock (blockFrom k))) ⌝ }
+// The moment of `BlockingEnd`, and those of the two aggregates where `by` is what the test finds.
+fn block_fits(head: &[u64], time: Moment, k: BlockEnd, by: Delayed) -> bool
+    requires { ⌜ length (now head) ≡ 256 ⌝ ∗ ⌜ Limited (now head) ⌝ ∗ ⌜ time .0 ≤ momentLimit ⌝ ∗ ⌜ k .end .0 ≤ momentLimit ⌝ }
+    ensures { λ r. ⌜ ((rs : List ℕ) → delayedOf by ≡ heldUpAt (stateFrom (now (head .entry)) rs) (time .0) (blockFrom k)
+        → r ≡ fits (candidateSums (stateFrom (now (head .entry)) rs) (time .0) (aBlock (blockFrom k)))) ⌝ }
 {
     let end = k.end.later(time);
     let reporting = header::of_side(head, header::REPORTING_DELAY, k.client);
     if !end.plus(Length(reporting)).fits() {
         return false;
     }
-    let by = held_up(head, rest, k.client, end);
     aggregate::fit(Length(head[0]), k.client, end, by)
 }
 
@@ -125,13 +102,14 @@ fn action_fits(head: &[u64], p: Planned) -> bool
 }
 
 // The sums of what the round takes up.
-pub fn candidate_fits(head: &[u64], rest: &[u64], time: Moment, c: Candidate) -> bool
-    requires { ⌜ length (now head) ≡ 256 ⌝ ∗ ⌜ Good (now head) (now rest) ⌝ ∗ ⌜ time .0 ≤ momentLimit ⌝ ∗ ⌜ Stands (now head) (now rest) c ⌝ }
-    ensures { λ r. ⌜ r ≡ fits (candidateSums (stateFrom (now (head .entry)) (now (rest .entry))) (time .0) (candidateOf (now (head .entry)) c)) ⌝ }
+pub fn candidate_fits(head: &[u64], time: Moment, c: Candidate) -> bool
+    requires { ⌜ length (now head) ≡ 256 ⌝ ∗ ⌜ time .0 ≤ momentLimit ⌝ ∗ ⌜ ((rs : List ℕ) × (Good (now head) rs × Stands (now head) rs c)) ⌝ }
+    ensures { λ r. ⌜ ((rs : List ℕ) → Reckoned (now (head .entry)) rs (time .0) c
+        → r ≡ fits (candidateSums (stateFrom (now (head .entry)) rs) (time .0) (candidateOf (now (head .entry)) c))) ⌝ }
 {
     match c {
         Candidate::Aggregate(a) => aggregate_fits(head, a),
-        Candidate::Block(k) => block_fits(head, rest, time, k),
+        Candidate::Block(k, by) => block_fits(head, time, k, by),
         Candidate::Event(_) => true,
         Candidate::Timer(_) => true,
         Candidate::Action(p) => action_fits(head, p),

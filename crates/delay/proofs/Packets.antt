@@ -17,15 +17,18 @@ use Rattle.rules.specs.Aggregates.{anyWithin, waiting, baseMoment}
 use Rattle.rules.specs.Limits.{momentLimit}
 use Rattle.queue_event.specs.Words.{In, nextOf, momentOf}
 use Rattle.queue_event.specs.Chain.{Chain, Node, nodes, recAt, recs, contents, pick}
+use Rattle.queue_event.specs.Order.{Sorted}
 use Rattle.queue_event.specs.Folds.{later, latestOf, anyWithin as anyRec}
 use Rattle.layout.specs.Records.{headOf, countOf, Fit}
 use Rattle.layout.specs.Accepted.{Good}
 use Rattle.layout.specs.Layout.{stateFrom, chains, heldEvent, eventFrom}
 use Rattle.layout.specs.Changes.{sideNo}
 use Rattle.queue_event.proofs.Laws.{chain-in, chain-next, nodes-next}
+use Rattle.queue_event.proofs.Folds.{sorted-next}
 use Rattle.layout.proofs.Banks.{chains-at}
 use Rattle.layout.proofs.TwoChains.{queue-built}
 use Rattle.layout.proofs.Counts.{length-map, length-nodes}
+use Rattle.layout.proofs.Tails.{ordered-sorted}
 use Rattle.delay.specs.Waiting.{heldIn, behindIn, anyIn, tailOver, burstTailOver}
 use Rattle.delay.specs.Tests.{without}
 
@@ -40,6 +43,16 @@ head-there h rs k n f g l ef en p = chain-in rs k n f (omega arith) (chain-linke
 
 pub rest-linked : (h rs : List ℕ) (k n f x : ℕ) → Good h rs → k ≤ 10 → f ≡ headOf h k → n ≡ countOf h k → (n ≡ 0 → ⊥) → x ≡ nextOf rs f → Chain rs k (n - 1) x
 rest-linked h rs k n f x g l ef en p ex = rw ex (chain-next rs k n f (omega arith) (chain-linked h rs k n f g l ef en))
+
+-- and in order
+pub chain-sorted :
+    (h rs : List ℕ) (z : Side) (of k n f : ℕ) → Good h rs → 1 ≤ of → of ≤ 4 → k ≡ of + 5 * sideNo z → k ≤ 10 → f ≡ headOf h k → n ≡ countOf h k → Sorted (nodes rs n f)
+chain-sorted h rs z of k n f g a b ek l ef en = rw (ef, en) (ordered-sorted k 0 0 _ (omega arith) (g .chains k (omega arith) .order))
+
+pub rest-sorted :
+    (h rs : List ℕ) (z : Side) (of k n f x : ℕ) → Good h rs → 1 ≤ of → of ≤ 4 → k ≡ of + 5 * sideNo z → k ≤ 10 → f ≡ headOf h k → n ≡ countOf h k → (n ≡ 0 → ⊥) → x ≡ nextOf rs f
+    → Sorted (nodes rs (n - 1) x)
+rest-sorted h rs z of k n f x g a b ek l ef en p ex = rw ex (sorted-next rs n f (omega arith) (chain-sorted h rs z of k n f g a b ek l ef en))
 
 pub counts-fit : (h rs : List ℕ) (j k n m : ℕ) → Good h rs → j ≤ 10 → k ≤ 10 → n ≡ countOf h j → m ≡ countOf h k → length rs < 2 ^ 64 → Fits w64 (n + m)
 counts-fit h rs j k n m g lj lk en em p = record { fits = omega (arith, g .chains j (omega arith) .count, g .chains k (omega arith) .count) }

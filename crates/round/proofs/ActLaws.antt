@@ -23,7 +23,8 @@ use Rattle.queue.specs.Heads.{headFrom}
 use Rattle.queue.specs.declared.peek.Head.{Head}
 use Rattle.queue_peek.specs.Decoded.{blockFrom}
 use Rattle.queue_peek.specs.declared.blocks.BlockEnd.{BlockEnd}
-use Rattle.candidate.specs.Candidates.{candidateOf, Stands, dueSlot, plannedSlot, actionValue}
+use Rattle.delay.specs.declared.Delayed.{Delayed}
+use Rattle.candidate.specs.Candidates.{candidateOf, Stands, Reckoned, dueSlot, plannedSlot, actionValue}
 use Rattle.candidate.specs.declared.Candidate.{Candidate}
 use Rattle.candidate.specs.declared.Candidate.the-variants.{Aggregate, Block, Event as AnEvent, Timer, Action as AnAction}
 use Rattle.candidate.specs.declared.Due.{Due}
@@ -88,16 +89,16 @@ module _ (w : List ℕ) (now k : ℕ) (c : Candidate) (may : MayAct w now k c) w
 
   -- ---- 2. a block
 
-  module _ (b : BlockEnd) (e : c ≡ Block b) where
-    pub block-due : BlockDue w now b
-    unfolding candidateOf
+  module _ (b : BlockEnd) (by : Delayed) (e : c ≡ Block b by) where
+    pub block-due : BlockDue w now b by
+    unfolding candidateOf Reckoned
     block-due =
-        let m : MayAct w now k (Block b) = as-told w now k c (Block b) e may in
-        record { accepted = may .round .accepted; time = may .round .time; set = there w now k (Block b) m; sum = fits-all _ (m .sums) .0 }
+        let m : MayAct w now k (Block b by) = as-told w now k c (Block b by) e may in
+        record { accepted = may .round .accepted; time = may .round .time; set = there w now k (Block b by) m; sum = fits-all _ (m .sums) .0; reckoned = m .reckoned }
 
     pub block-acted : (left : List ℕ) (r : Pass) → Passed w left k (endBlock (stateOf w) now (blockFrom b)) r → Passed w left k (act (stateOf w) now (candidateOf (take 256 w) c)) r
     unfolding candidateOf
-    block-acted left r p = passed-as w left now k c (Block b) r e p
+    block-acted left r p = passed-as w left now k c (Block b by) r e p
 
   -- ---- 3. an event
 

@@ -14,8 +14,7 @@ use Rattle.rules.specs.Limits.{momentLimit}
 use Rattle.rules.specs.Queueing.{pushEvent}
 use Rattle.rules.specs.Aggregates.{aggregatesOf, addAggregate, addAggregates}
 use Rattle.rules.specs.ChoiceDelays.{Block}
-use Rattle.rules.specs.ChoiceHeads.{waitingHead}
-use Rattle.rules.specs.ChoiceRound.{RoundOutcome, next, taken, clearBlock, endAggregates, endBlock, endEvent, endMoment, heldUpLength}
+use Rattle.rules.specs.ChoiceRound.{RoundOutcome, next, taken, clearBlock, endAggregates, endBlock, endEvent, endMoment}
 use Rattle.laws.specs.Accepted.{Accepted as HeldAccepted}
 use Rattle.laws.specs.Counts.{at-most-two}
 use Rattle.laws.specs.RecordsRound.{side-reserved}
@@ -92,7 +91,7 @@ clear-free s now k =
 
 -- ---- the block is cleared
 
-module _ (w : List ℕ) (now : ℕ) (k : BlockEnd) (due : BlockDue w now k) where
+module _ (w : List ℕ) (now : ℕ) (k : BlockEnd) (by : Delayed) (due : BlockDue w now k by) where
   held : HeldAccepted (stateOf w)
   held = holds-accepted w (due .accepted)
 
@@ -107,8 +106,7 @@ module _ (w : List ℕ) (now : ℕ) (k : BlockEnd) (due : BlockDue w now k) wher
   end-limit : k .end .0 ≤ momentLimit
   end-limit = subst EndOk (due .set) (sound-side (held .sound) (sideOf (k .client)) .end)
 
-  module _ (end : Moment) (ee : end .0 ≡ max (k .end .0) now) (by : Delayed) (eb : delayedOf by ≡ heldUpLength (side (stateOf w) (sideOf (k .client))) (end .0) (waitingHead false (side (stateOf w) (sideOf (k .client)))))
-      (w₁ : List ℕ) (c : Becomes w w₁ (unblocked (stateOf w) (sideOf (k .client)))) (d : Length) (ed : d .0 ≡ stateOf w₁ .settings .networkDelay) where
+  module _ (end : Moment) (ee : end .0 ≡ max (k .end .0) now) (w₁ : List ℕ) (c : Becomes w w₁ (unblocked (stateOf w) (sideOf (k .client)))) (d : Length) (ed : d .0 ≡ stateOf w₁ .settings .networkDelay) where
     delay-is : d .0 ≡ stateOf w .settings .networkDelay
     delay-is = ed ∙ ap (λ (s : State). s .settings .networkDelay) (c .state) ∙ network-same (stateOf w) (sideOf (k .client))
 
@@ -132,8 +130,7 @@ module _ (w : List ℕ) (now : ℕ) (k : BlockEnd) (due : BlockDue w now k) wher
         (subst (Becomes w₁ w₂)
         (λ i.
         addAggregates (c .state i)
-        (aggregatesOf (delay-is i) (sideOf (k .client)) (end-is i)
-        ((eb ∙ ap (λ (t : ℕ). heldUpLength (side (stateOf w) (sideOf (k .client))) t (waitingHead false (side (stateOf w) (sideOf (k .client))))) end-is) i))) (leaves-becomes w₁ w₂ _ l))
+        (aggregatesOf (delay-is i) (sideOf (k .client)) (end-is i) (due .reckoned i))) (leaves-becomes w₁ w₂ _ l))
 
   -- ---- `BlockingEnd`
 

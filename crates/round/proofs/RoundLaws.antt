@@ -23,8 +23,8 @@ use Rattle.laws.specs.SoundRound.{round-sound}
 use Rattle.laws.specs.Steady.{act-steady}
 use Rattle.layout.specs.Layout.{stateOf}
 use Rattle.layout.specs.Shape.{Shaped}
-use Rattle.candidate.specs.Candidates.{candidateOf, nextOf, NextStands, Stands}
-use Rattle.candidate.specs.Promises.{Picked}
+use Rattle.candidate.specs.Candidates.{candidateOf, nextOf, NextStands, NextReckoned, Stands, Reckoned}
+use Rattle.candidate.specs.Promises.{TakenUp}
 use Rattle.candidate.specs.declared.Candidate.{Candidate}
 use Rattle.candidate.specs.declared.Next.{Next}
 use Rattle.candidate.specs.declared.Next.the-variants.{Take, Nothing}
@@ -146,23 +146,27 @@ module _ (w : List ℕ) (now k : ℕ) (may : MayRound w now k) where
       pub count-fits : total (stateOf w) + 1 < 2 ^ 64
       count-fits = omega (arith, total-small)
 
-      module _ (n : Next) (picked : Picked (take 256 w) (drop 256 w) n (candidate (stateOf w) now)) where
+      module _ (n : Next) (took : TakenUp (take 256 w) (drop 256 w) now n (candidate (stateOf w) now)) where
         pub none-found : n ≡ Nothing → (left : List ℕ) → Becomes w left (counted (stateOf w)) → Rounded w left now k (Answered (choice.Nothing (record { rounds = k + 1 })))
         unfolding nextOf
         none-found e left c =
             rounded left _ _ (both-fit (stateOf w) now always (ap (λ (x : RulesCandidate). fits (candidateSums (stateOf w) now x)) is-none ∙ no-sums) ∙ ap (λ (x : RulesCandidate). closed (act (stateOf w) now x)) is-none) (record { answer = refl; words = c })
           where
             is-none : candidate (stateOf w) now ≡ none-left
-            is-none = sym (picked .is) ∙ ap (nextOf (take 256 w)) e
+            is-none = sym (took .picked .is) ∙ ap (nextOf (take 256 w)) e
 
         module _ (c : Candidate) (e : n ≡ Take c) where
           pub found-is : candidateOf (take 256 w) c ≡ candidate (stateOf w) now
           unfolding nextOf
-          found-is = sym (ap (nextOf (take 256 w)) e) ∙ picked .is
+          found-is = sym (ap (nextOf (take 256 w)) e) ∙ took .picked .is
 
           pub found-stands : Stands (take 256 w) (drop 256 w) c
           unfolding NextStands
-          found-stands = subst (NextStands (take 256 w) (drop 256 w)) e (picked .stands)
+          found-stands = subst (NextStands (take 256 w) (drop 256 w)) e (took .picked .stands)
+
+          pub found-reckoned : Reckoned (take 256 w) (drop 256 w) now c
+          unfolding NextReckoned
+          found-reckoned = subst (NextReckoned (take 256 w) (drop 256 w) now) e (took .reckoned)
 
           module _ (f : Bool) (ef : f ≡ fits (candidateSums (stateOf w) now (candidateOf (take 256 w) c))) where
             case-sums : f ≡ fits (candidateSums (stateOf w) now (candidate (stateOf w) now))
@@ -173,7 +177,7 @@ module _ (w : List ℕ) (now k : ℕ) (may : MayRound w now k) where
 
             module _ (g : f ≡ true) where
               pub act-may : MayAct w now k c
-              act-may = record { round = may; is = found-is; stands = found-stands; sums = sym ef ∙ g }
+              act-may = record { round = may; is = found-is; stands = found-stands; reckoned = found-reckoned; sums = sym ef ∙ g }
 
               module _ (w₁ : List ℕ) (p : Pass) (a : Passed w w₁ k (act (stateOf w) now (candidateOf (take 256 w) c)) p) where
                 same-total : total (stateOf w₁) ≡ total (stateOf w)

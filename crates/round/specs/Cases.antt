@@ -27,7 +27,9 @@ use Rattle.queue.specs.Pushes.{Canonical}
 use Rattle.queue.specs.declared.peek.Head.{Head}
 use Rattle.queue_peek.specs.Decoded.{blockFrom}
 use Rattle.queue_peek.specs.declared.blocks.BlockEnd.{BlockEnd}
-use Rattle.candidate.specs.Candidates.{actionValue}
+use Rattle.delay.specs.Tests.{delayedOf}
+use Rattle.delay.specs.declared.Delayed.{Delayed}
+use Rattle.candidate.specs.Candidates.{actionValue, heldUpAt}
 use Rattle.candidate.specs.declared.Due.{Due}
 use Rattle.candidate.specs.declared.Planned.{Planned}
 use Rattle.round.specs.Changes.{Becomes, HasFree}
@@ -103,12 +105,13 @@ begun s z a = withSide s z (actedSide BlockOutgoing (side s z) a)
 abbrev pub startBlock : State → Slot → Action → State
 startBlock s z a = pushEvent (begun s (z .side) a) (actedEvent BlockOutgoing (actedSide BlockOutgoing (side s (z .side)) a) z a)
 
--- a block's end, three free records, and sums within the limit
-pub record BlockDue (w : List ℕ) (now : ℕ) (k : BlockEnd) : Type 0 where
+-- a block's end, three free records, sums within the limit, and what the test at it finds
+pub record BlockDue (w : List ℕ) (now : ℕ) (k : BlockEnd) (by : Delayed) : Type 0 where
   pub accepted : Accepted w
   pub time : now ≤ momentLimit
   pub set : side (stateOf w) (sideOf (k .client)) .blockEnd ≡ some (k .end .0)
   pub sum : endEvent (stateOf w) now (blockFrom k) .moment ≤ momentLimit
+  pub reckoned : delayedOf by ≡ heldUpAt (stateOf w) now (blockFrom k)
 
 -- ---- a round's answer
 

@@ -12,7 +12,7 @@ use Rattle.event.specs.Answers.{choiceOf}
 use Rattle.event.specs.declared.answer.Choice.{Choice}
 use Rattle.layout.specs.Accepted.{Accepted}
 use Rattle.layout.specs.Layout.{stateOf}
-use Rattle.candidate.specs.Candidates.{candidateOf, Stands}
+use Rattle.candidate.specs.Candidates.{candidateOf, Stands, Reckoned}
 use Rattle.candidate.specs.declared.Candidate.{Candidate}
 use Rattle.round.specs.Changes.{SpareKept}
 use Rattle.round.specs.Cases.{Passed}
@@ -29,6 +29,7 @@ pub record MayAct (w : List ℕ) (now k : ℕ) (c : Candidate) : Type 0 where
   pub round : MayRound w now k
   pub is : candidateOf (take 256 w) c ≡ candidate (stateOf w) now
   pub stands : Stands (take 256 w) (drop 256 w) c
+  pub reckoned : Reckoned (take 256 w) (drop 256 w) now c
   pub sums : fits (candidateSums (stateOf w) now (candidateOf (take 256 w) c)) ≡ true
 
 -- the rules' round, and accepted words

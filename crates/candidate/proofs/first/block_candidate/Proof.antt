@@ -16,9 +16,15 @@ enum-told c = search needs
 returns : tie.Need-returns
 returns c = search block-none
 
+later-requires : tie.Need-later-requires
+later-requires c κs = search needs
+
+held-up-requires : tie.Need-held-up-requires
+held-up-requires c κs = search needs
+
 returns-2 : tie.Need-returns-2
 returns-2 c = search block-some
 
 pub block-candidate-spec : {M : Type 1} → statement M
 block-candidate-spec =
-    tie.close (tie.spec next-block-requires enum-known-next enum-told returns returns-2)
+    tie.close (tie.spec next-block-requires enum-known-next enum-told returns later-requires held-up-requires returns-2)

@@ -19,11 +19,8 @@ fits-requires c κs = search needs
 returns : tie.Need-returns
 returns c = search block-late
 
-held-up-requires : tie.Need-held-up-requires
-held-up-requires c κs = search needs
-
-shared-slice-read-t13 : tie.Need-shared-slice-read-t13
-shared-slice-read-t13 c = search needs
+shared-slice-read-t12 : tie.Need-shared-slice-read-t12
+shared-slice-read-t12 c = search needs
 
 fit-requires : tie.Need-fit-requires
 fit-requires c κs = (search network-within, search end-within)
@@ -40,7 +37,6 @@ block-fits-spec =
     plus-requires
     fits-requires
     returns
-    held-up-requires
-    shared-slice-read-t13
+    shared-slice-read-t12
     fit-requires
     returns-2)

@@ -1,6 +1,6 @@
 -- `candidate::sums::candidate_fits` meets its contract. Assumes nothing.
 use borrow.Author.Needs.{needs}
-use Rattle.candidate.proofs.ActionSums.{good-limits, stands-block, stands-moment, stands-duration, case-aggregate, case-block, case-event, case-timer, case-action}
+use Rattle.candidate.proofs.ActionSums.{good-limits, stands-end, stands-moment, stands-duration, case-aggregate, case-block, case-event, case-timer, case-action}
 use Rattle.candidate.proofs.sums.candidate_fits.Statement.{statement}
 use Rattle.candidate.proofs.sums.candidate_fits.Tie as tie
 
@@ -14,7 +14,7 @@ enum-known-c-2 : tie.Need-enum-known-c-2
 enum-known-c-2 c = search needs
 
 block-fits-requires : tie.Need-block-fits-requires
-block-fits-requires c κs = (search needs, (search needs, (search needs, search stands-block)))
+block-fits-requires c κs = (search needs, (search good-limits, (search needs, search stands-end)))
 
 enum-told : tie.Need-enum-told
 enum-told c = search needs

@@ -1,6 +1,6 @@
 -- `delay::waiting::any_behind` meets its contract. Assumes nothing.
 use borrow.Author.Needs.{needs}
-use Rattle.delay.proofs.Packets.{rest-linked, head-there, any-rest, any-empty}
+use Rattle.delay.proofs.Packets.{rest-linked, rest-sorted, head-there, any-rest, any-empty}
 use Rattle.delay.proofs.waiting.any_behind.Statement.{statement}
 use Rattle.delay.proofs.waiting.any_behind.Tie as tie
 
@@ -23,7 +23,7 @@ sub-any-within : tie.Need-sub-any-within
 sub-any-within c = search needs
 
 any-within-requires : tie.Need-any-within-requires
-any-within-requires c κs = (c .before .before .before .before .chain .result, search rest-linked)
+any-within-requires c κs = ((c .before .before .before .before .chain .result, search rest-linked), search rest-sorted)
 
 returns-2 : tie.Need-returns-2
 returns-2 c = search any-rest

@@ -1,6 +1,6 @@
 -- `delay::waiting::any_in` meets its contract. Assumes nothing.
 use borrow.Author.Needs.{needs}
-use Rattle.delay.proofs.Packets.{chain-linked, any-held}
+use Rattle.delay.proofs.Packets.{chain-linked, chain-sorted, any-held}
 use Rattle.delay.proofs.waiting.any_in.Statement.{statement}
 use Rattle.delay.proofs.waiting.any_in.Tie as tie
 
@@ -14,7 +14,7 @@ count-requires : tie.Need-count-requires
 count-requires c κs = search needs
 
 any-within-requires : tie.Need-any-within-requires
-any-within-requires c κs = (c .before .before .chain .result, search chain-linked)
+any-within-requires c κs = ((c .before .before .chain .result, search chain-linked), search chain-sorted)
 
 returns : tie.Need-returns
 returns c = search any-held

@@ -1,6 +1,6 @@
 -- `delay::waiting::latest_in` meets its contract. Assumes nothing.
 use borrow.Author.Needs.{needs}
-use Rattle.delay.proofs.Packets.{chain-linked, latest-held}
+use Rattle.delay.proofs.Packets.{chain-linked, chain-sorted, latest-held}
 use Rattle.delay.proofs.waiting.latest_in.Statement.{statement}
 use Rattle.delay.proofs.waiting.latest_in.Tie as tie
 
@@ -14,7 +14,7 @@ count-requires : tie.Need-count-requires
 count-requires c κs = search needs
 
 latest-requires : tie.Need-latest-requires
-latest-requires c κs = (c .before .before .chain .result, search chain-linked)
+latest-requires c κs = ((c .before .before .chain .result, search chain-linked), search chain-sorted)
 
 returns : tie.Need-returns
 returns c = search latest-held

@@ -6,7 +6,7 @@ use Rattle.queue_event.specs.Chain.{contents}
 use Rattle.queue_event.specs.Folds.{latestOf}
 use Rattle.queue_event.specs.Loops.{Latest}
 use Rattle.queue_event.proofs.Laws.{chain-in}
-use Rattle.queue_event.proofs.Folds.{latest-turn, latest-end}
+use Rattle.queue_event.proofs.Folds.{latest-turn, latest-stop, latest-end}
 use Rattle.queue_event.proofs.window.latest.Statement.{statement}
 use Rattle.queue_event.proofs.window.latest.Tie as tie
 
@@ -17,13 +17,22 @@ abbrev μ-loop : tie.MeasureT-loop
 μ-loop records head count from window best₀ at₀ left₀ best at left = left
 
 loop-holds : tie.Need-loop-holds Inv-loop μ-loop
-loop-holds c = record { mark = c .before .pre .0; chain = c .before .pre .1; rest = refl }
+loop-holds c = record { mark = c .before .pre .0 .0; chain = c .before .pre .0 .1; sorted = c .before .pre .1; rest = refl }
 
 get-requires : tie.Need-get-requires Inv-loop μ-loop
 get-requires c κs = search (needs, chain-in)
 
-later-of-requires : tie.Need-later-of-requires Inv-loop μ-loop
-later-of-requires c κs = search needs
+since-requires : tie.Need-since-requires Inv-loop μ-loop
+since-requires c κs = search needs
+
+within-requires : tie.Need-within-requires Inv-loop μ-loop
+within-requires c κs = search needs
+
+returns : tie.Need-returns Inv-loop μ-loop
+returns c = search latest-stop
+
+later-requires : tie.Need-later-requires Inv-loop μ-loop
+later-requires c κs = search needs
 
 get-requires-2 : tie.Need-get-requires-2 Inv-loop μ-loop
 get-requires-2 c κs = search (needs, chain-in)
@@ -37,8 +46,8 @@ loop-less c = omega arith
 loop-again : tie.Need-loop-again Inv-loop μ-loop
 loop-again c = search latest-turn
 
-returns : tie.Need-returns Inv-loop μ-loop
-returns c = search latest-end
+returns-2 : tie.Need-returns-2 Inv-loop μ-loop
+returns-2 c = search latest-end
 
 pub latest-spec : {M : Type 1} → statement M
 latest-spec =
@@ -48,9 +57,12 @@ latest-spec =
     μ-loop
     loop-holds
     get-requires
-    later-of-requires
+    since-requires
+    within-requires
+    returns
+    later-requires
     get-requires-2
     sub-left
     loop-less
     loop-again
-    returns)
+    returns-2)

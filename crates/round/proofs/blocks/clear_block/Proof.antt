@@ -7,9 +7,6 @@ use Rattle.round.proofs.blocks.clear_block.Tie as tie
 later-requires : tie.Need-later-requires
 later-requires c κs = search needs
 
-held-up-in-requires : tie.Need-held-up-in-requires
-held-up-in-requires c κs = search needs
-
 clear-block-requires : tie.Need-clear-block-requires
 clear-block-requires c κs = search block-shaped
 
@@ -30,7 +27,6 @@ clear-block-spec =
     tie.close
     (tie.spec
     later-requires
-    held-up-in-requires
     clear-block-requires
     network-delay-requires
     push-aggregate-delay-requires

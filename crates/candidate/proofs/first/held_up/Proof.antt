@@ -1,9 +1,9 @@
--- `candidate::sums::held_up` meets its contract. Assumes nothing.
+-- `candidate::first::held_up` meets its contract. Assumes nothing.
 use borrow.Author.Needs.{needs}
 use Rattle.queue.proofs.HeadsSides.{sum-small}
 use Rattle.candidate.proofs.SumLaws.{held-none, held-late, held-by}
-use Rattle.candidate.proofs.sums.held_up.Statement.{statement}
-use Rattle.candidate.proofs.sums.held_up.Tie as tie
+use Rattle.candidate.proofs.first.held_up.Statement.{statement}
+use Rattle.candidate.proofs.first.held_up.Tie as tie
 
 peek-blocking-requires : tie.Need-peek-blocking-requires
 peek-blocking-requires c κs = search needs
