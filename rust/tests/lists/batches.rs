@@ -25,8 +25,21 @@ struct Batch<'a> {
     random: &'a mut Random,
 }
 
-/// Makes the calls as lists and gives their answers, a turn's for its two calls.
-pub fn made_as_lists(words: &mut [u64], calls: &[Call], random: &mut Random) -> Vec<Answer> {
+/// How many lists, rows and turns were made.
+#[derive(Clone, Copy, Default)]
+pub struct Tally {
+    pub lists: usize,
+    pub rows: usize,
+    pub turns: usize,
+}
+
+/// Makes the calls as lists and gives their answers, a turn's for its two calls. What was made is added to the tally.
+pub fn made_as_lists(
+    words: &mut [u64],
+    calls: &[Call],
+    random: &mut Random,
+    tally: &mut Tally,
+) -> Vec<Answer> {
     let mut copy = words.to_vec();
     let mut core = Core::resume(&mut copy);
     let alone = calls.iter().map(|c| made_alone(&mut core, c)).collect();
@@ -41,8 +54,14 @@ pub fn made_as_lists(words: &mut [u64], calls: &[Call], random: &mut Random) -> 
         let (due, next) = batch.list(from);
         given.extend(batch.make(words, &due, next));
         from = next;
+        tally.lists += 1;
     }
     hold_words(words, &copy);
+    tally.rows += given.len();
+    tally.turns += given
+        .iter()
+        .filter(|a| matches!(a, Answer::Turn(_)))
+        .count();
     given
 }
 

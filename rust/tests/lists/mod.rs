@@ -10,7 +10,7 @@ pub mod random;
 pub mod show;
 
 use alone::made_alone;
-use batches::made_as_lists;
+use batches::{made_as_lists, Tally};
 use line::{line_of, Line};
 use maybenot_core::{Answer, Call, Choice, Core, Refusal};
 use random::Random;
@@ -33,6 +33,7 @@ enum Calls {
         waiting: Vec<Call>,
         length: usize,
         random: Random,
+        tally: Tally,
     },
 }
 
@@ -94,8 +95,17 @@ impl Lists {
                 waiting: Vec::new(),
                 length: random.length(MOST),
                 random,
+                tally: Tally::default(),
             },
             ..Lists::new()
+        }
+    }
+
+    /// What was made as lists.
+    pub fn tally(&self) -> Tally {
+        match self.calls {
+            Calls::OneByOne => Tally::default(),
+            Calls::AsLists { tally, .. } => tally,
         }
     }
 
@@ -164,12 +174,13 @@ impl Lists {
             waiting,
             length,
             random,
+            tally,
         } = &mut self.calls
         else {
             return;
         };
         let lent = &mut self.words[..self.lent];
-        for given in made_as_lists(lent, waiting, random) {
+        for given in made_as_lists(lent, waiting, random, tally) {
             write(&given, answers);
         }
         waiting.clear();
