@@ -27,6 +27,8 @@ const BATCHES: [usize; 4] = [3, 30, 300, usize::MAX];
 /// About how long the tests of all batches may take, and how long one takes for each record, in nanoseconds.
 const ALL_TESTS: usize = 400_000_000;
 const TEST_OF_RECORD: usize = 3;
+/// Packets a window and side.
+const RATE: u64 = 900;
 /// A list shorter than this is timed more often, up to so many times.
 const LONG: usize = 100_000;
 const MOST_OFTEN: usize = 40;
@@ -237,6 +239,15 @@ fn print_row(phase: &Phase, lengths: &[usize; 4], ours: &[f64; 4], theirs: &[f64
     println!();
 }
 
+/// The rates of the steady state. Where a block has no room for as many stamps as the first of them, one that is reached.
+fn rates(records: usize) -> Vec<Option<u64>> {
+    let mut rates = vec![None, Some(RATE)];
+    if records < 10 * RATE as usize {
+        rates.push(Some(records as u64 / 8));
+    }
+    rates
+}
+
 pub fn main() {
     let mut words = std::env::args()
         .skip(1)
@@ -259,7 +270,7 @@ pub fn main() {
         row_of(&load, rounds);
         row_of(&drain, rounds);
         row_of(&by_turns(&drain), rounds);
-        for rate in [None, Some(900)] {
+        for rate in rates(records) {
             let steady = steady(records, rate, calls);
             row_of(&steady, rounds);
             row_of(&by_turns(&steady), rounds);

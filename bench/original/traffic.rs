@@ -67,6 +67,11 @@ impl Line {
         let row = row(code, arguments);
         log::ROUNDS.set(0);
         let done = Theirs::of(&row).make(&mut self.core);
+        assert!(
+            self.used() + RESERVE <= self.records,
+            "a block of {} records would have no room",
+            self.records
+        );
         let answer = answer(code, done, log::ROUNDS.get());
         self.rows.push(row);
         self.answers.push(answer);
@@ -90,12 +95,16 @@ impl Line {
         Some(event[0])
     }
 
-    /// Whether the block has room for more: the records in use, all that may be reserved, and what a step takes.
-    fn has_room(&self) -> bool {
+    /// How many records a block would have in use.
+    fn used(&self) -> usize {
         let n = &self.core.network;
         let stamps = n.client_window.timestamps.len() + n.server_window.timestamps.len();
-        let used = self.core.sq.len() + stamps + n.aggregate_delay_queue.len();
-        used + RESERVE + SLACK < self.records
+        self.core.sq.len() + stamps + n.aggregate_delay_queue.len()
+    }
+
+    /// Whether a block has room for more: all that may be reserved, and what a step takes.
+    fn has_room(&self) -> bool {
+        self.used() + RESERVE + SLACK < self.records
     }
 
     /// A machine pads, blocks, sets its timer, or clears what it holds.
@@ -155,10 +164,12 @@ pub fn load_and_drain(records: usize) -> [Phase; 2] {
     [load, line.phase("drain".to_string(), opening, loaded)]
 }
 
-/// The steady state: 0.3 R packets wait, the stamps of a window are a quarter of R or, with a rate, about as many as it allows.
+/// The steady state: 0.3 R packets wait, and each one that is sent is followed by another. A tenth of R or more are stamps; with a
+/// rate about as many as it allows.
 pub fn steady(records: usize, rate: Option<u64>, calls: usize) -> Phase {
     let opening = opening(rate);
-    let packets = (records / 8).min(rate.map_or(usize::MAX, |r| r as usize));
+    // blocks hold packets up and padding is sent beside them: these come to about as many a side as the rate allows
+    let packets = (records / 4).min(rate.map_or(usize::MAX, |r| 6 * r as usize));
     let mut line = Line::new(records, &opening, packets);
     for _ in 0..records * 3 / 10 {
         line.push();
