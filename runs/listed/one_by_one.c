@@ -40,19 +40,18 @@ static uint64_t step(struct list *l, uint64_t time, const uint64_t *e, uint64_t 
 /* Whether the chosen event is one of those that `stop` names. */
 static bool stops(uint64_t stop, const uint64_t *chosen)
 {
-    uint64_t kind = chosen[MAYBENOT_CORE_ANSWER_KIND];
-    return (stop >> (chosen[MAYBENOT_CORE_ANSWER_SIDE] ? kind : 16 + kind) & 1) != 0;
+    return (stop & MAYBENOT_STOP(chosen[MAYBENOT_CORE_ANSWER_SIDE], chosen[MAYBENOT_CORE_ANSWER_KIND])) != 0;
 }
 
 /* A turn; whether the list goes on after it. */
 static bool turn(struct list *l, uint64_t time, uint64_t stop, uint64_t *answer)
 {
-    uint64_t *chosen = answer + 1;
+    uint64_t *chosen = answer + MAYBENOT_ROW_OUT;
     answer[0] = choose(l, time > l->last ? time : l->last, chosen);
     if (answer[0] != MAYBENOT_CORE_OK || chosen[MAYBENOT_CORE_ANSWER_CHOSEN] == 0) {
         return false;
     }
-    answer[0] = step(l, chosen[MAYBENOT_CORE_ANSWER_MOMENT], chosen + MAYBENOT_CORE_ANSWER_KIND, answer + 11);
+    answer[0] = step(l, chosen[MAYBENOT_CORE_ANSWER_MOMENT], chosen + MAYBENOT_CORE_ANSWER_KIND, answer + MAYBENOT_ROW_ACTIVITY);
     return answer[0] == MAYBENOT_CORE_OK && !stops(stop, chosen);
 }
 
@@ -80,10 +79,10 @@ static bool make(struct list *l, const uint64_t *row, uint64_t *answer)
         answer[0] = maybenot_core_clear_timer(b, n, a[0], a[1]);
         return true;
     case MAYBENOT_CALL_PICK_NEXT:
-        answer[0] = choose(l, a[0], answer + 1);
+        answer[0] = choose(l, a[0], answer + MAYBENOT_ROW_OUT);
         return true;
     case MAYBENOT_CALL_SIM_NETWORK_STACK:
-        answer[0] = step(l, a[0], a + 1, answer + 1);
+        answer[0] = step(l, a[0], a + 1, answer + MAYBENOT_ROW_OUT);
         return true;
     default:
         return turn(l, a[0], a[1], answer);
