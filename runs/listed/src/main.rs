@@ -1,7 +1,7 @@
 //! listed SEED [TALLY]: answers the call list on standard input as `forecast` does, but makes the calls as lists of random
 //! lengths, 1 to 400, some of the choices and steps as turns. Each answer and the words left are held to the same calls made
 //! one by one; where they differ the program ends with status 101 and says how. A line with the number of lists, rows and
-//! turns is added to the file TALLY.
+//! turns, and the rows of the longest list, is added to the file TALLY.
 //!
 //! listed --steps SEED: writes the call list on standard input out again, with the network step of its event behind some
 //! of the choices, and some runs of choices and steps.
@@ -43,7 +43,7 @@ fn main() -> Result<()> {
 /// Adds what the lists made to the file, in one write: several programs may add to it at once.
 fn add_tally(file: &str, lists: &Lists) -> Result<()> {
     let t = lists.tally();
-    let line = format!("{} {} {}\n", t.lists, t.rows, t.turns);
+    let line = format!("{} {} {} {}\n", t.lists, t.rows, t.turns, t.longest);
     let mut file = OpenOptions::new().create(true).append(true).open(file)?;
     file.write_all(line.as_bytes())
 }

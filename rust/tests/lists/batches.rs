@@ -23,6 +23,8 @@ struct Batch<'a> {
     calls: &'a [Call],
     alone: Vec<Answer>,
     random: &'a mut Random,
+    /// whether turns may end a list before the batch is made; where not, it is one list
+    ends: bool,
 }
 
 /// How many lists, rows and turns were made.
@@ -31,6 +33,8 @@ pub struct Tally {
     pub lists: usize,
     pub rows: usize,
     pub turns: usize,
+    /// the rows of the longest list
+    pub longest: usize,
 }
 
 /// Makes the calls as lists and gives their answers, a turn's for its two calls. What was made is added to the tally.
@@ -43,10 +47,12 @@ pub fn made_as_lists(
     let mut copy = words.to_vec();
     let mut core = Core::resume(&mut copy);
     let alone = calls.iter().map(|c| made_alone(&mut core, c)).collect();
+    let ends = random.below(3) == 0;
     let mut batch = Batch {
         calls,
         alone,
         random,
+        ends,
     };
     let mut given = Vec::new();
     let mut from = 0;
@@ -55,6 +61,7 @@ pub fn made_as_lists(
         given.extend(batch.make(words, &due, next));
         from = next;
         tally.lists += 1;
+        tally.longest = tally.longest.max(due.len());
     }
     hold_words(words, &copy);
     tally.rows += given.len();
@@ -113,7 +120,8 @@ impl Batch<'_> {
         (Due { row, answer }, 1, false)
     }
 
-    /// The choice as a turn, where it was refused or found nothing, or the step of its event follows.
+    /// The choice as a turn, where it was refused or found nothing, or the step of its event follows; and where the list
+    /// may end after it, if it does.
     fn turn(
         &mut self,
         at: usize,
@@ -128,7 +136,7 @@ impl Batch<'_> {
             now
         };
         let Some(event) = choice.and_then(|chosen| chosen.event()) else {
-            return Some(self.turn_without_event(at, now));
+            return self.ends.then(|| self.turn_without_event(at, now));
         };
         let step = match (self.calls.get(at + 1)?, self.alone.get(at + 1)?) {
             (&Call::SimNetworkStack { time, event: e }, &Answer::Step(step))
@@ -138,7 +146,10 @@ impl Batch<'_> {
             }
             _ => return None,
         };
-        let with = self.random.below(8) == 0;
+        let with = self.ends && self.random.below(8) == 0;
+        if step.is_err() && !self.ends {
+            return None;
+        }
         let stop = some_stop(self.random, event, with);
         let answer = Answer::Turn(Turn {
             choice: Ok(choice?),
