@@ -14,9 +14,11 @@
  *   - One caller at a time: nobody else reads or writes the block during a call. Calls on different blocks may run at once.
  *   - Its words are in the machine's byte order. A block may be saved, copied or moved as it is and gone on with, but
  *     not on a machine with another byte order. docs/LAYOUT.md says what each word holds.
- *   - No heap is used, nothing is read or written but the block and `out`. Of the C library only memset is called.
+ *   - No heap is used, nothing is read or written but what a call is lent: the block, `out`, the rows and answers of a
+ *     list. Of the C library only memset is called.
  *   - Stack: see MAYBENOT_CORE_STACK_BYTES below.
- *   - Time: every call tests or writes the whole block, so its time grows with R. Take no more records than you need.
+ *   - Time: every call tests or writes the whole block, so its time grows with R. Take no more records than you need, and
+ *     make many calls as one list: maybenot_core_calls tests the block once for all of them.
  *
  * TIMES are whole nanoseconds. A moment counts from an origin of the caller's choice; a delay, window or duration is a
  * length of time. All numbers cross as 64 bits without a sign.
@@ -26,7 +28,7 @@
  *
  * WHAT IS RETURNED: 0, or the number of the refusal, the first in the table below that holds. A refused call leaves the
  * block as it was, word for word, but for number 10: that sets the ended mark, and a choice then keeps the rounds that
- * it had finished.
+ * it had finished. (A list of calls returns how many it made; each of its answers holds such a number.)
  */
 #ifndef MAYBENOT_CORE_H
 #define MAYBENOT_CORE_H
@@ -230,6 +232,63 @@ uint64_t maybenot_core_sim_network_stack(uint64_t *block, size_t words, uint64_t
                                          uint64_t kind, uint64_t moment, uint64_t delay, uint64_t side,
                                          uint64_t padding, uint64_t bypass, uint64_t replace, uint64_t machine,
                                          uint64_t *out, size_t out_words);
+
+/* ---- a list of calls */
+
+/* The words of a row, which is one call of a list, and of its answer. */
+#define MAYBENOT_ROW_WORDS 12u
+
+/*
+ * Codes of a row, its first word. The arguments of the call follow in the order of its function above, without block and
+ * `out`; the words after them are ignored.
+ */
+enum {
+    MAYBENOT_CALL_PUSH = 0,              /* kind, moment, delay, side, padding, bypass, replace, machine */
+    MAYBENOT_CALL_SET_ACTION = 1,        /* side, machine, kind, moment, duration, bypass, replace */
+    MAYBENOT_CALL_CLEAR_ACTION = 2,      /* side, machine */
+    MAYBENOT_CALL_SET_TIMER = 3,         /* side, machine, moment */
+    MAYBENOT_CALL_CLEAR_TIMER = 4,       /* side, machine */
+    MAYBENOT_CALL_PICK_NEXT = 5,         /* time */
+    MAYBENOT_CALL_SIM_NETWORK_STACK = 6, /* time, kind, moment, delay, side, padding, bypass, replace, machine */
+    MAYBENOT_CALL_TURN = 7               /* time, stop: a choice and the step of its event, see below */
+};
+
+/* What stands where in an answer. */
+enum {
+    MAYBENOT_ROW_NUMBER = 0,   /* the number of the refusal, 0 for none */
+    MAYBENOT_ROW_OUT = 1,      /* from here on: what the call writes to `out`; of a turn what its choice writes */
+    MAYBENOT_ROW_ACTIVITY = 11 /* of a turn: 1 where its step found network activity, else 0 */
+};
+
+/* The bit of `stop` for the events of a kind, 0 to 9, on a side. */
+#define MAYBENOT_STOP(side, kind) (UINT64_C(1) << ((side) != MAYBENOT_CORE_SERVER ? (kind) : 16 + (kind)))
+
+/*
+ * Makes the calls of a list one after the other, each as its own function above would, but tests the block only once.
+ *
+ *   calls           rows of MAYBENOT_ROW_WORDS words; aligned to 8 bytes, not NULL, apart from the block; only read
+ *   calls_words     the number of its words; those after the last whole row are ignored
+ *   answers         room for as many answers of MAYBENOT_ROW_WORDS words; aligned to 8 bytes, not NULL, apart from the block
+ *                   and from the rows
+ *   answers_words   the number of its words; those after the last whole answer are left as they were
+ *
+ * Returned: how many rows were made. They are the first ones, and their answers the first ones. The list stops before a row
+ * whose code is none of the above, where whole rows or whole answers run out, and after a turn as said below. Answers of
+ * rows that were not made are left as they were.
+ *
+ * An answer: the number of the refusal or 0; then what the function writes to `out`, ten words of a choice, one of a step,
+ * none of the others; then zeros. A refused call does not end the list. Where the words are too short or no accepted state,
+ * every row is answered with 1 or 2, and the block is left as it was. After a 10 the rows that follow are made and get 3.
+ *
+ * A TURN is a choice and, where it chose an event, that event's network step at the event's own moment. The choice is made
+ * at the later of `time` and the moment of the last event that a choice or a turn of this same list chose, so that a run is
+ * one row written many times. Its answer: the number; the ten words of the choice; MAYBENOT_ROW_ACTIVITY. The number is
+ * that of the choice's refusal, or, where the choice chose an event, of the step's. The list ends after a turn that is
+ * refused, that says nothing left, or whose event is in `stop` (MAYBENOT_STOP; other bits are ignored). That turn is
+ * counted. The list that goes on from there begins at the moment of the last event: hand it in as `time`.
+ */
+uint64_t maybenot_core_calls(uint64_t *block, size_t words, const uint64_t *calls, size_t calls_words,
+                             uint64_t *answers, size_t answers_words);
 
 #ifdef __cplusplus
 }

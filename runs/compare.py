@@ -11,6 +11,8 @@ difference is cut down to a smallest list and printed with both answers.
   compare.py --ours CMD --seconds 60              as many seeds as fit in a minute
   compare.py --ours CMD --seeds 1-300 --show 10   show after every tenth call only
   compare.py --ours CMD --lists runs/lists/*.txt  stored lists
+  compare.py --ours 'target/runs/listed 1' --through 'target/runs/listed --steps 1' --show 60
+                                                  the list call, with steps behind choices
 
 Exit status: 0 no difference; 1 a difference, or a program failed; 2 bad usage;
 3 the oracle cannot be built here: nothing to compare with.
@@ -49,15 +51,20 @@ def name_of(line):
     return "" if not words or words[0].startswith("#") else words[0]
 
 
-def answers(program, lines):
-    """The program's answer to each line, none of which is empty or a comment."""
+def written_by(program, lines):
+    """What the program writes when it is handed a list."""
     try:
         run = subprocess.run(program, input="\n".join(lines) + "\n", capture_output=True, text=True)
     except OSError as error:
         raise Failed(f"{shlex.join(program)}: {error.strerror}")
     if run.returncode != 0:
         raise Failed(f"{shlex.join(program)}: status {run.returncode}: {run.stderr[-500:]}")
-    written = iter(run.stdout.split("\n"))
+    return run.stdout
+
+
+def answers(program, lines):
+    """The program's answer to each line, none of which is empty or a comment."""
+    written = iter(written_by(program, lines).split("\n"))
     result = []
     for line in lines:
         if name_of(line) in SEVERAL_LINES:
@@ -208,6 +215,7 @@ class Job:
     calls: int
     every: int
     microseconds: bool
+    through: tuple  # a command that rewrites the list, or nothing
 
     def lines(self):
         if self.kind in generate.KINDS:
@@ -216,6 +224,8 @@ class Job:
             lines = [line for line in pathlib.Path(self.kind).read_text().split("\n") if name_of(line)]
         if self.microseconds:
             lines = [in_microseconds(line) for line in lines]
+        if self.through:
+            lines = written_by(self.through, lines).splitlines()
         return with_shows(lines, self.every)
 
 
@@ -265,6 +275,7 @@ def arguments():
     parser.add_argument("--calls", type=int, default=1000, help="calls in a list (1000)")
     parser.add_argument("--show", type=int, default=1, metavar="N", help="show after every Nth call (1)")
     parser.add_argument("--lists", nargs="+", metavar="FILE", help="compare these files instead")
+    parser.add_argument("--through", metavar="CMD", default="", help="a program that writes each list out again, changed, before it is compared")
     parser.add_argument("--microseconds", action="store_true", help="delays in whole microseconds, for oracle-bindist")
     parser.add_argument("--jobs", type=int, default=1, help="lists compared at a time (1)")
     parser.add_argument("--quiet", action="store_true", help="no progress, only the closing table")
@@ -281,15 +292,16 @@ def oracle():
 
 def jobs_of(args):
     """The lists to compare, seed by seed."""
+    through = tuple(shlex.split(args.through))
     if args.lists:
         for path in args.lists:
-            yield Job(path, 0, 0, args.show, args.microseconds)
+            yield Job(path, 0, 0, args.show, args.microseconds, through)
         return
     first, _, last = args.seeds.partition("-")
     seeds = itertools.count(int(first)) if args.seconds else range(int(first), int(last or first) + 1)
     for seed in seeds:
         for kind in args.kinds.split(","):
-            yield Job(kind, seed, args.calls, args.show, args.microseconds)
+            yield Job(kind, seed, args.calls, args.show, args.microseconds, through)
 
 
 def in_order(pool, work, jobs, ahead):

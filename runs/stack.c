@@ -18,14 +18,17 @@
 #define PAINTED (32u * 1024u)
 #define PAINT 0xa5
 #define LARGE MAYBENOT_CORE_WORDS(MAYBENOT_CORE_MAX_RECORDS)
-#define CALLS 8
+#define CALLS 9
+#define ROWS 8
 
 static const char *const NAMES[CALLS] = {
-    "open", "push_sim", "set_action", "clear_action", "set_timer", "clear_timer", "pick_next", "sim_network_stack",
+    "open", "push_sim", "set_action", "clear_action", "set_timer", "clear_timer", "pick_next", "sim_network_stack", "calls",
 };
 
 static uint64_t block[LARGE];
 static uint64_t out[MAYBENOT_CORE_ANSWER_WORDS];
+static uint64_t rows[ROWS][MAYBENOT_ROW_WORDS];
+static uint64_t answers[ROWS][MAYBENOT_ROW_WORDS];
 static size_t deepest[CALLS];
 static size_t deepest_accepted;
 static size_t done[CALLS];
@@ -49,6 +52,42 @@ static uint64_t number(void)
     return chance(2000);
 }
 
+/* The arguments of a row after its code, as the calls of `made` have them. */
+static void arguments(uint64_t code, uint64_t *a)
+{
+    size_t i;
+    for (i = 0; i < MAYBENOT_ROW_WORDS - 1; i++) {
+        a[i] = chance(3);
+    }
+    if (code == MAYBENOT_CALL_PUSH || code == MAYBENOT_CALL_SIM_NETWORK_STACK) {
+        uint64_t *event = code == MAYBENOT_CALL_PUSH ? a : a + 1;
+        a[0] = chance(2000);
+        event[0] = chance(11);
+        event[1] = number();
+    } else if (code == MAYBENOT_CALL_SET_ACTION) {
+        a[2] = chance(4);
+        a[3] = number();
+        a[4] = chance(300);
+    } else if (code == MAYBENOT_CALL_SET_TIMER) {
+        a[2] = number();
+    } else if (code == MAYBENOT_CALL_PICK_NEXT || code == MAYBENOT_CALL_TURN) {
+        a[0] = chance(2000);
+    }
+}
+
+/* A list of random rows; the last number that it answered. */
+static uint64_t list(size_t words)
+{
+    uint64_t made;
+    size_t i;
+    for (i = 0; i < ROWS; i++) {
+        rows[i][0] = chance(8);
+        arguments(rows[i][0], rows[i] + 1);
+    }
+    made = maybenot_core_calls(block, words, rows[0], ROWS * MAYBENOT_ROW_WORDS, answers[0], ROWS * MAYBENOT_ROW_WORDS);
+    return made == 0 ? 0 : answers[made - 1][MAYBENOT_ROW_NUMBER];
+}
+
 static uint64_t made(size_t call, size_t words)
 {
     uint64_t flags = chance(8);
@@ -69,9 +108,11 @@ static uint64_t made(size_t call, size_t words)
         return maybenot_core_clear_timer(block, words, chance(2), chance(3));
     case 6:
         return maybenot_core_pick_next(block, words, chance(2000), out, MAYBENOT_CORE_ANSWER_WORDS);
-    default:
+    case 7:
         return maybenot_core_sim_network_stack(block, words, chance(2000), kind, number(), chance(3), chance(2), flags & 1,
                                                flags & 2, flags & 4, chance(3), out, MAYBENOT_CORE_STEP_WORDS);
+    default:
+        return list(words);
     }
 }
 

@@ -99,6 +99,7 @@ def prepared(work):
             shutil.copytree(REPO / "target" / part, t / "target" / part)
     (t / "target/staticlib/libmaybenot_core.a").touch()
     t.edit(".ci/run", "--seconds 60", "--seconds 2")
+    t.edit(".ci/run", "--seconds 20", "--seconds 2")
     count = len(re.findall(r"^\w+:", (t / "crates.txt").read_text(), re.M)) + len(list(t.repo.glob("crates/*/must-fail/*.edit")))
     (work / "bin").mkdir()
     (work / "bin/rt").write_text(STAND_IN.replace("COUNT", str(count)).replace("exec RT", f"exec {RT}"))
@@ -127,6 +128,8 @@ TRIALS = [
     ("a wrong answer to a stored list", RED, "the stored lists: failed", lambda t: t.losing("--lists")),
     ("a wrong answer to a random list", RED, "of every kind: failed", lambda t: t.losing("--seconds")),
     ("a wrong answer in C", RED, "line.answers differs", lambda t: t.edit("examples/c/line.answers", "1", "2")),
+    ("a wrong answer of a list of calls in C", RED, "turns.answers differs", lambda t: t.edit("examples/c/turns.answers", "1", "2")),
+    ("a wrong answer through the list call", RED, "list call: the stored lists: failed", lambda t: t.edit("runs/listed/src/main.rs", "lines.join", "lines[1..].join")),
     ("a wrong answer on hostile blocks", RED, "hostile blocks: failed", lambda t: t.edit("runs/hostile/reading.h", "((1ull << 62) - 1)", "((1ull << 62) - 2)")),
     ("no cargo", GREEN, "not compared with the Rust: runs/build: no cargo", lambda t: t.without("cargo")),
     ("no gcc", GREEN, "not tested from C and Rust: bindings: gcc is not there", lambda t: t.without("gcc")),

@@ -49,7 +49,7 @@ pub struct Block {
 }
 
 impl Block {
-    fn new(length: usize) -> Block {
+    pub fn new(length: usize) -> Block {
         let store = vec![0; length + 8];
         let from = store.as_ptr().align_offset(64);
         Block {

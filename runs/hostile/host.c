@@ -7,59 +7,10 @@
  * instead, for valgrind. */
 #include "../../include/maybenot_core.h"
 #include "blocks.h"
+#include "places.h"
 #include <stdio.h>
 #include <stdlib.h>
 #include <string.h>
-#include <sys/mman.h>
-
-#define PAGE 4096
-#define CANARY 0xa5
-
-/* ---- places between guards */
-
-struct place {
-  unsigned char *pages; /* those that may be touched */
-  size_t bytes;         /* of them */
-  size_t length;        /* of what is lent, in words */
-  word *lent;
-};
-
-static struct place place_for(size_t length) {
-  size_t bytes = length ? (8 * length + PAGE - 1) / PAGE * PAGE : PAGE;
-  unsigned char *all = mmap(0, bytes + 2 * PAGE, PROT_NONE, MAP_PRIVATE | MAP_ANONYMOUS, -1, 0);
-  if (all == MAP_FAILED || mprotect(all + PAGE, bytes, PROT_READ | PROT_WRITE)) {
-    perror("mmap");
-    exit(2);
-  }
-  return (struct place){.pages = all + PAGE, .bytes = bytes, .length = length};
-}
-
-/* Lends words in the place, flush against its upper or its lower guard. */
-static void lend(struct place *p, size_t length, int upper) {
-  p->length = length;
-#ifdef EXACT
-  (void)upper;
-  free(p->lent);
-  p->lent = malloc(8 * length);
-#else
-  memset(p->pages, CANARY, p->bytes);
-  p->lent = (word *)(upper ? p->pages + p->bytes - 8 * length : p->pages);
-#endif
-}
-
-/* Whether every byte around what is lent is as it was. */
-static int untouched_around(const struct place *p) {
-#ifndef EXACT
-  static unsigned char canaries[PAGE + 8];
-  if (!canaries[0]) memset(canaries, CANARY, sizeof canaries);
-  size_t slack = p->bytes - 8 * p->length;
-  int upper = (unsigned char *)p->lent != p->pages;
-  return !memcmp(upper ? p->pages : p->pages + 8 * p->length, canaries, slack);
-#else
-  (void)p;
-  return 1;
-#endif
-}
 
 /* ---- lengths */
 

@@ -1,19 +1,11 @@
 //! The calls. Each lends its block to the archive and turns the number that comes back into an answer.
 
 use crate::block::Core;
-use crate::choice::{event_of, Choice, ANSWER_WORDS};
+use crate::choice::{choice_of, Choice, ANSWER_WORDS};
 use crate::event::{Action, Side, SimEvent};
 use crate::opening::Opening;
-use crate::refusal::Refusal;
+use crate::refusal::{told, Refusal};
 use crate::sys;
-
-/// The answer of a call that returned this number.
-fn told(number: u64, rounds: u64) -> Result<(), Refusal> {
-    if number == 0 {
-        return Ok(());
-    }
-    Err(Refusal::new(number, rounds))
-}
 
 impl Core<'_> {
     /// Opens the state anew: every record is free, all else is as after [`Core::open_in`].
@@ -182,15 +174,9 @@ impl Core<'_> {
         // SAFETY: `lend` gives a block that is aligned, not null and borrowed for this call alone; `out` is a variable.
         let number =
             unsafe { sys::maybenot_core_pick_next(block, words, now, out.as_mut_ptr(), out.len()) };
-        let rounds = out[1];
-        told(number, rounds)?;
-        if out[0] == 0 {
-            return Ok(Choice::Nothing { rounds });
-        }
-        Ok(Choice::Event {
-            event: event_of(&out),
-            rounds,
-        })
+        let choice = choice_of(&out);
+        told(number, choice.rounds())?;
+        Ok(choice)
     }
 
     /// Makes the network step on an event, at a time in nanoseconds, and tells whether there was network activity: a

@@ -53,10 +53,13 @@ impl Choice {
     }
 }
 
-/// The event of a choice's answer, from its third word on.
-pub(crate) fn event_of(out: &[u64; ANSWER_WORDS]) -> SimEvent {
-    let [_, _, kind, moment, delay, side, padding, bypass, replace, machine] = *out;
-    SimEvent {
+/// The choice that these words are the answer of, where it was not refused; its rounds where it was.
+pub(crate) fn choice_of(out: &[u64; ANSWER_WORDS]) -> Choice {
+    let [chosen, rounds, kind, moment, delay, side, padding, bypass, replace, machine] = *out;
+    if chosen == 0 {
+        return Choice::Nothing { rounds };
+    }
+    let event = SimEvent {
         kind: Kind(kind),
         moment,
         delay,
@@ -65,5 +68,6 @@ pub(crate) fn event_of(out: &[u64; ANSWER_WORDS]) -> SimEvent {
         bypass: bypass != 0,
         replace: replace != 0,
         machine,
-    }
+    };
+    Choice::Event { event, rounds }
 }

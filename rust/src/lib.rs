@@ -10,7 +10,8 @@
 //! event, one pending aggregate delay or one stamp. [`Core`] works on a block that you lend ([`Core::open_in`],
 //! [`Core::resume`]) or owns one ([`Core::with_records`]). Times are whole nanoseconds from an origin of your choice.
 //!
-//! Every call tests the whole block first, so its time grows with R.
+//! Every call tests the whole block first, so its time grows with R. A list of calls tests it once: [`Core::batch`] and
+//! [`Core::calls`] make any calls as one list, [`Core::run_until`] and [`Core::turns`] make choices and steps by turns.
 //!
 //! ```
 //! use maybenot_core::{Choice, Core, Kind, Opening, Side, SimEvent};
@@ -41,6 +42,24 @@
 //! # Ok::<(), maybenot_core::Refusal>(())
 //! ```
 //!
+//! The same as lists, the packets of a trace in one and the run in another:
+//!
+//! ```
+//! use maybenot_core::{Call, Core, Kind, Opening, Side, SimEvent, Stop};
+//!
+//! let mut core = Core::with_records(64, &Opening { network_delay: 20, ..Opening::default() })?;
+//! let trace = [(0, Side::Client), (100, Side::Server), (110, Side::Server)];
+//! let packets = trace.map(|(moment, side)| SimEvent::new(Kind::NORMAL_SENT, side, moment));
+//! assert!(core.batch(packets.map(Call::PushSim)).iter().all(|answer| answer.refusal().is_none()));
+//!
+//! let mut received = Vec::new();
+//! core.run_until(0, Stop::NEVER, |turn| {
+//!     received.extend(turn.event().filter(|e| e.kind == Kind::NORMAL_RECV).map(|e| (e.side, e.moment)));
+//! })?;
+//! assert_eq!(received, [(Side::Server, 20), (Side::Client, 120), (Side::Client, 130)]);
+//! # Ok::<(), maybenot_core::Refusal>(())
+//! ```
+//!
 //! # Linking
 //!
 //! The archive `libmaybenot_core.a` is made by `rt staticlib maybenot_core` in the repository. The build looks for it in
@@ -50,19 +69,24 @@
 #![deny(unsafe_op_in_unsafe_fn)]
 #![warn(clippy::undocumented_unsafe_blocks)]
 
+mod answers;
 mod block;
 mod calls;
 mod choice;
 mod event;
+mod list;
 mod opening;
 mod refusal;
+mod row;
 pub mod sys;
 
+pub use answers::{Answer, AnswerRow, Answers, Turn, Turns};
 pub use block::{accepted, Core};
 pub use choice::Choice;
 pub use event::{Action, ActionKind, Kind, Side, SimEvent};
 pub use opening::{Opening, SideOpening};
 pub use refusal::Refusal;
+pub use row::{Call, Row, Stop, ROW_WORDS};
 
 /// The largest number of records that a block may have.
 pub const MAX_RECORDS: usize = 65_535;

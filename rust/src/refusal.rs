@@ -39,11 +39,15 @@ pub struct Refusal {
     rounds: u64,
 }
 
-impl Refusal {
-    pub(crate) fn new(number: u64, rounds: u64) -> Refusal {
-        Refusal { number, rounds }
+/// The answer of a call that returned this number.
+pub(crate) fn told(number: u64, rounds: u64) -> Result<(), Refusal> {
+    if number == 0 {
+        return Ok(());
     }
+    Err(Refusal { number, rounds })
+}
 
+impl Refusal {
     /// Its number in the table, 1 to 10.
     ///
     /// ```

@@ -7,8 +7,9 @@
 //! # Safety
 //!
 //! Of every function here: `block` points to `words` words that are aligned to 8 bytes and that nobody else reads or
-//! writes during the call; it is not null, even where `words` is 0. The same holds of `out` and `out_words`, and the two
-//! do not overlap. Nothing is asked of what the words hold, nor of the numbers.
+//! writes during the call; it is not null, even where `words` is 0. The same holds of `out` and `out_words`, of `answers`
+//! and `answers_words`, and, but that others may read them too, of `calls` and `calls_words`; none of these overlap.
+//! Nothing is asked of what the words hold, nor of the numbers.
 
 extern "C" {
     /// Whether the words are an accepted state. Only reads.
@@ -107,5 +108,17 @@ extern "C" {
         machine: u64,
         out: *mut u64,
         out_words: usize,
+    ) -> u64;
+
+    /// Makes the calls of a list, and answers how many were made. Of each row of twelve words in `calls` the first is the
+    /// code, 0 to 7, and the arguments follow; its answer is twelve words in `answers`: the number of the refusal, what the
+    /// call writes to `out`, and zeros. The header says what a turn is (code 7), and where a list stops.
+    pub fn maybenot_core_calls(
+        block: *mut u64,
+        words: usize,
+        calls: *const u64,
+        calls_words: usize,
+        answers: *mut u64,
+        answers_words: usize,
     ) -> u64;
 }

@@ -1,7 +1,8 @@
-//! The stored call lists through the safe crate: every line of their answers is compared.
+//! The stored call lists through the safe crate, one by one and as lists of calls: every line of their answers is compared.
 
 mod lists;
 
+use lists::random::Random;
 use lists::Lists;
 use std::path::Path;
 
@@ -23,8 +24,8 @@ fn same(ours: &str, stored: &str) -> bool {
 }
 
 /// Compares the answers of one list line by line, and counts them.
-fn compared(calls: &str, answers: &str) -> usize {
-    let ours = Lists::new().answers(&read(calls));
+fn compared(mut lists: Lists, calls: &str, answers: &str) -> usize {
+    let ours = lists.answers(&read(calls));
     let stored = String::from_utf8(read(answers)).expect("answers are plain text");
     let stored: Vec<&str> = stored.lines().collect();
     for (at, (a, b)) in ours.iter().zip(&stored).enumerate() {
@@ -37,8 +38,18 @@ fn compared(calls: &str, answers: &str) -> usize {
 #[test]
 fn stored_lists_are_answered_as_stored() {
     for (calls, answers) in STORED {
-        let lines = compared(calls, answers);
+        let lines = compared(Lists::new(), calls, answers);
         println!("{calls}: {lines} lines of answers are as stored in {answers}");
         assert!(lines > 0);
+    }
+}
+
+#[test]
+fn lists_of_calls_are_answered_as_stored() {
+    for seed in 0..20 {
+        for (calls, answers) in STORED {
+            let lists = Lists::as_lists(Random::new(seed, &read(calls)));
+            assert!(compared(lists, calls, answers) > 0);
+        }
     }
 }

@@ -1,7 +1,7 @@
 //! What a line asks for.
 
-use super::{Action, ActionKind, Kind, SimEvent, WORDS};
-use maybenot_core::{Opening, Side, SideOpening};
+use super::WORDS;
+use maybenot_core::{Action, ActionKind, Call, Kind, Opening, Side, SideOpening, SimEvent};
 
 /// A line that is not passed over.
 pub enum Line {
@@ -9,13 +9,7 @@ pub enum Line {
     Lend(usize),
     Word(usize, u64),
     Open(Opening),
-    Push(SimEvent),
-    SetAction(Side, u64, Action),
-    ClearAction(Side, u64),
-    SetTimer(Side, u64, u64),
-    ClearTimer(Side, u64),
-    PickNext(u64),
-    Step(u64, SimEvent),
+    Call(Call),
     Show,
     Words,
 }
@@ -122,21 +116,45 @@ fn place(word: &[u8], limit: usize) -> Option<usize> {
     (n <= limit).then_some(n)
 }
 
-/// The call of a line, `None` for a bad one.
+/// What a line asks for, `None` for a bad one.
 fn call_of(name: &[u8], arguments: &[&[u8]]) -> Option<Line> {
     Some(match (name, arguments) {
         (b"lend", [n]) => Line::Lend(place(n, WORDS)?),
         (b"word", [at, value]) => Line::Word(place(at, WORDS - 1)?, number(value)?),
         (b"open", words) => Line::Open(opening(words)?),
-        (b"push", words) => Line::Push(event(words)?),
-        (b"set_action", [s, m, rest @ ..]) => Line::SetAction(side(s)?, number(m)?, action(rest)?),
-        (b"clear_action", [s, m]) => Line::ClearAction(side(s)?, number(m)?),
-        (b"set_timer", [s, m, t]) => Line::SetTimer(side(s)?, number(m)?, number(t)?),
-        (b"clear_timer", [s, m]) => Line::ClearTimer(side(s)?, number(m)?),
-        (b"pick_next", [now]) => Line::PickNext(number(now)?),
-        (b"sim_network_stack", [time, rest @ ..]) => Line::Step(number(time)?, event(rest)?),
         (b"show", []) => Line::Show,
         (b"words", []) => Line::Words,
+        _ => Line::Call(core_call(name, arguments)?),
+    })
+}
+
+/// The call on the core that a line asks for.
+fn core_call(name: &[u8], arguments: &[&[u8]]) -> Option<Call> {
+    Some(match (name, arguments) {
+        (b"push", words) => Call::PushSim(event(words)?),
+        (b"set_action", [s, m, rest @ ..]) => Call::SetAction {
+            side: side(s)?,
+            machine: number(m)?,
+            action: action(rest)?,
+        },
+        (b"clear_action", [s, m]) => Call::ClearAction {
+            side: side(s)?,
+            machine: number(m)?,
+        },
+        (b"set_timer", [s, m, t]) => Call::SetTimer {
+            side: side(s)?,
+            machine: number(m)?,
+            moment: number(t)?,
+        },
+        (b"clear_timer", [s, m]) => Call::ClearTimer {
+            side: side(s)?,
+            machine: number(m)?,
+        },
+        (b"pick_next", [now]) => Call::PickNext { now: number(now)? },
+        (b"sim_network_stack", [time, rest @ ..]) => Call::SimNetworkStack {
+            time: number(time)?,
+            event: event(rest)?,
+        },
         _ => return None,
     })
 }

@@ -1,10 +1,19 @@
-//! A small reader of call lists (docs/CALLS.md) that makes the calls through the safe crate. It serves the tests alone.
+//! A small reader of call lists (docs/CALLS.md) that makes the calls through the safe crate, one by one or as lists of
+//! random lengths. It serves several tests and the program runs/listed, none of which uses all of it.
 
-mod line;
-mod show;
+#![allow(dead_code)]
 
+pub mod alone;
+pub mod batches;
+pub mod line;
+pub mod random;
+pub mod show;
+
+use alone::made_alone;
+use batches::{made_as_lists, Tally};
 use line::{line_of, Line};
-use maybenot_core::{Action, ActionKind, Choice, Core, Kind, Refusal, SimEvent};
+use maybenot_core::{Answer, Call, Choice, Core, Refusal};
+use random::Random;
 
 /// The words that the lists work on.
 pub const WORDS: usize = 8192;
@@ -13,7 +22,23 @@ pub const WORDS: usize = 8192;
 pub struct Lists {
     words: Vec<u64>,
     lent: usize,
+    calls: Calls,
 }
+
+/// How the calls are made.
+enum Calls {
+    OneByOne,
+    /// As lists of random lengths: the calls that are not made yet, and how many will be made as one batch.
+    AsLists {
+        waiting: Vec<Call>,
+        length: usize,
+        random: Random,
+        tally: Tally,
+    },
+}
+
+/// The longest batch.
+const MOST: u64 = 400;
 
 /// An answer in words.
 fn answer(result: Result<String, Refusal>) -> String {
@@ -40,11 +65,47 @@ fn chosen(choice: Choice) -> String {
     }
 }
 
+/// The answer of a call as a line; of a turn that of its choice, and that of its step where there is one.
+fn write(given: &Answer, answers: &mut Vec<String>) {
+    match *given {
+        Answer::Done(done) => answers.push(answer(done.map(ok))),
+        Answer::Choice(choice) => answers.push(answer(choice.map(chosen))),
+        Answer::Step(step) => answers.push(answer(step.map(yes_or_no))),
+        Answer::Turn(turn) => {
+            answers.push(answer(turn.choice.map(chosen)));
+            answers.extend(turn.step.map(|step| answer(step.map(yes_or_no))));
+        }
+    }
+}
+
 impl Lists {
+    /// Calls are made one by one.
     pub fn new() -> Lists {
         Lists {
             words: vec![0; WORDS],
             lent: WORDS,
+            calls: Calls::OneByOne,
+        }
+    }
+
+    /// Calls are made as lists of random lengths.
+    pub fn as_lists(mut random: Random) -> Lists {
+        Lists {
+            calls: Calls::AsLists {
+                waiting: Vec::new(),
+                length: random.length(MOST),
+                random,
+                tally: Tally::default(),
+            },
+            ..Lists::new()
+        }
+    }
+
+    /// What was made as lists.
+    pub fn tally(&self) -> Tally {
+        match self.calls {
+            Calls::OneByOne => Tally::default(),
+            Calls::AsLists { tally, .. } => tally,
         }
     }
 
@@ -52,15 +113,20 @@ impl Lists {
     pub fn answers(&mut self, text: &[u8]) -> Vec<String> {
         let mut answers = Vec::new();
         for (at, bytes) in text.split(|b| *b == b'\n').enumerate() {
-            self.answer_line(at + 1, bytes, &mut answers);
+            if let Some(line) = line_of(bytes) {
+                self.answer_line(at + 1, line, &mut answers);
+            }
         }
+        self.make_waiting(&mut answers);
         answers
     }
 
-    fn answer_line(&mut self, number: usize, bytes: &[u8], answers: &mut Vec<String>) {
-        let Some(line) = line_of(bytes) else {
+    fn answer_line(&mut self, number: usize, line: Line, answers: &mut Vec<String>) {
+        if let Line::Call(call) = line {
+            self.answer_call(call, answers);
             return;
-        };
+        }
+        self.make_waiting(answers);
         let lent = &mut self.words[..self.lent];
         match line {
             Line::Bad => answers.push(format!("bad line {number}")),
@@ -80,21 +146,44 @@ impl Lists {
             Line::Open(opening) => answers.push(answer(
                 Core::open_in(lent, &opening).map(|_| "ok".to_string()),
             )),
-            call => answers.push(answer(made(&mut Core::resume(lent), call))),
+            Line::Call(_) => unreachable!("made before"),
         }
     }
-}
 
-/// Makes a call on the state that the words hold.
-fn made(core: &mut Core, call: Line) -> Result<String, Refusal> {
-    match call {
-        Line::Push(event) => core.push_sim(&event).map(ok),
-        Line::SetAction(side, machine, action) => core.set_action(side, machine, &action).map(ok),
-        Line::ClearAction(side, machine) => core.clear_action(side, machine).map(ok),
-        Line::SetTimer(side, machine, moment) => core.set_timer(side, machine, moment).map(ok),
-        Line::ClearTimer(side, machine) => core.clear_timer(side, machine).map(ok),
-        Line::PickNext(now) => core.pick_next(now).map(chosen),
-        Line::Step(time, event) => core.sim_network_stack(time, &event).map(yes_or_no),
-        _ => unreachable!("answered before"),
+    /// Makes a call, or lets it wait for its batch.
+    fn answer_call(&mut self, call: Call, answers: &mut Vec<String>) {
+        match &mut self.calls {
+            Calls::OneByOne => {
+                let mut core = Core::resume(&mut self.words[..self.lent]);
+                write(&made_alone(&mut core, &call), answers);
+            }
+            Calls::AsLists {
+                waiting, length, ..
+            } => {
+                waiting.push(call);
+                if waiting.len() >= *length {
+                    self.make_waiting(answers);
+                }
+            }
+        }
+    }
+
+    /// Makes the calls that wait.
+    fn make_waiting(&mut self, answers: &mut Vec<String>) {
+        let Calls::AsLists {
+            waiting,
+            length,
+            random,
+            tally,
+        } = &mut self.calls
+        else {
+            return;
+        };
+        let lent = &mut self.words[..self.lent];
+        for given in made_as_lists(lent, waiting, random, tally) {
+            write(&given, answers);
+        }
+        waiting.clear();
+        *length = random.length(MOST);
     }
 }

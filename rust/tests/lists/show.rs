@@ -1,7 +1,6 @@
 //! What `show` lists, read from the words by docs/LAYOUT.md.
 
-use super::{Core, Kind, SimEvent};
-use maybenot_core::Side;
+use maybenot_core::{Core, Kind, Side, SimEvent};
 
 /// The places of the header, and of the first record.
 const BYPASSABLE: usize = 14;
