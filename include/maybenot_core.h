@@ -236,39 +236,39 @@ uint64_t maybenot_core_sim_network_stack(uint64_t *block, size_t words, uint64_t
 /* ---- a list of calls */
 
 /* The words of a row, which is one call of a list, and of its answer. */
-#define MAYBENOT_ROW_WORDS 12u
+#define MAYBENOT_CORE_ROW_WORDS 12u
 
 /*
  * Codes of a row, its first word. The arguments of the call follow in the order of its function above, without block and
  * `out`; the words after them are ignored.
  */
 enum {
-    MAYBENOT_CALL_PUSH = 0,              /* kind, moment, delay, side, padding, bypass, replace, machine */
-    MAYBENOT_CALL_SET_ACTION = 1,        /* side, machine, kind, moment, duration, bypass, replace */
-    MAYBENOT_CALL_CLEAR_ACTION = 2,      /* side, machine */
-    MAYBENOT_CALL_SET_TIMER = 3,         /* side, machine, moment */
-    MAYBENOT_CALL_CLEAR_TIMER = 4,       /* side, machine */
-    MAYBENOT_CALL_PICK_NEXT = 5,         /* time */
-    MAYBENOT_CALL_SIM_NETWORK_STACK = 6, /* time, kind, moment, delay, side, padding, bypass, replace, machine */
-    MAYBENOT_CALL_TURN = 7               /* time, stop: a choice and the step of its event, see below */
+    MAYBENOT_CORE_CALL_PUSH = 0,              /* kind, moment, delay, side, padding, bypass, replace, machine */
+    MAYBENOT_CORE_CALL_SET_ACTION = 1,        /* side, machine, kind, moment, duration, bypass, replace */
+    MAYBENOT_CORE_CALL_CLEAR_ACTION = 2,      /* side, machine */
+    MAYBENOT_CORE_CALL_SET_TIMER = 3,         /* side, machine, moment */
+    MAYBENOT_CORE_CALL_CLEAR_TIMER = 4,       /* side, machine */
+    MAYBENOT_CORE_CALL_PICK_NEXT = 5,         /* time */
+    MAYBENOT_CORE_CALL_SIM_NETWORK_STACK = 6, /* time, kind, moment, delay, side, padding, bypass, replace, machine */
+    MAYBENOT_CORE_CALL_TURN = 7               /* time, stop: a choice and the step of its event, see below */
 };
 
 /* What stands where in an answer. */
 enum {
-    MAYBENOT_ROW_NUMBER = 0,   /* the number of the refusal, 0 for none */
-    MAYBENOT_ROW_OUT = 1,      /* from here on: what the call writes to `out`; of a turn what its choice writes */
-    MAYBENOT_ROW_ACTIVITY = 11 /* of a turn: 1 where its step found network activity, else 0 */
+    MAYBENOT_CORE_ROW_NUMBER = 0,   /* the number of the refusal, 0 for none */
+    MAYBENOT_CORE_ROW_OUT = 1,      /* from here on: what the call writes to `out`; of a turn what its choice writes */
+    MAYBENOT_CORE_ROW_ACTIVITY = 11 /* of a turn: 1 where its step found network activity, else 0 */
 };
 
 /* The bit of `stop` for the events of a kind, 0 to 9, on a side. */
-#define MAYBENOT_STOP(side, kind) (UINT64_C(1) << ((side) != MAYBENOT_CORE_SERVER ? (kind) : 16 + (kind)))
+#define MAYBENOT_CORE_STOP(side, kind) (UINT64_C(1) << ((side) != MAYBENOT_CORE_SERVER ? (kind) : 16 + (kind)))
 
 /*
  * Makes the calls of a list one after the other, each as its own function above would, but tests the block only once.
  *
- *   calls           rows of MAYBENOT_ROW_WORDS words; aligned to 8 bytes, not NULL, apart from the block; only read
+ *   calls           rows of MAYBENOT_CORE_ROW_WORDS words; aligned to 8 bytes, not NULL, apart from the block; only read
  *   calls_words     the number of its words; those after the last whole row are ignored
- *   answers         room for as many answers of MAYBENOT_ROW_WORDS words; aligned to 8 bytes, not NULL, apart from the block
+ *   answers         room for as many answers of MAYBENOT_CORE_ROW_WORDS words; aligned to 8 bytes, not NULL, apart from the block
  *                   and from the rows
  *   answers_words   the number of its words; those after the last whole answer are left as they were
  *
@@ -282,9 +282,9 @@ enum {
  *
  * A TURN is a choice and, where it chose an event, that event's network step at the event's own moment. The choice is made
  * at the later of `time` and the moment of the last event that a choice or a turn of this same list chose, so that a run is
- * one row written many times. Its answer: the number; the ten words of the choice; MAYBENOT_ROW_ACTIVITY. The number is
+ * one row written many times. Its answer: the number; the ten words of the choice; MAYBENOT_CORE_ROW_ACTIVITY. The number is
  * that of the choice's refusal, or, where the choice chose an event, of the step's. The list ends after a turn that is
- * refused, that says nothing left, or whose event is in `stop` (MAYBENOT_STOP; other bits are ignored). That turn is
+ * refused, that says nothing left, or whose event is in `stop` (MAYBENOT_CORE_STOP; other bits are ignored). That turn is
  * counted. The list that goes on from there begins at the moment of the last event: hand it in as `time`.
  */
 uint64_t maybenot_core_calls(uint64_t *block, size_t words, const uint64_t *calls, size_t calls_words,

@@ -27,8 +27,8 @@ static const char *const NAMES[CALLS] = {
 
 static uint64_t block[LARGE];
 static uint64_t out[MAYBENOT_CORE_ANSWER_WORDS];
-static uint64_t rows[ROWS][MAYBENOT_ROW_WORDS];
-static uint64_t answers[ROWS][MAYBENOT_ROW_WORDS];
+static uint64_t rows[ROWS][MAYBENOT_CORE_ROW_WORDS];
+static uint64_t answers[ROWS][MAYBENOT_CORE_ROW_WORDS];
 static size_t deepest[CALLS];
 static size_t deepest_accepted;
 static size_t done[CALLS];
@@ -56,21 +56,21 @@ static uint64_t number(void)
 static void arguments(uint64_t code, uint64_t *a)
 {
     size_t i;
-    for (i = 0; i < MAYBENOT_ROW_WORDS - 1; i++) {
+    for (i = 0; i < MAYBENOT_CORE_ROW_WORDS - 1; i++) {
         a[i] = chance(3);
     }
-    if (code == MAYBENOT_CALL_PUSH || code == MAYBENOT_CALL_SIM_NETWORK_STACK) {
-        uint64_t *event = code == MAYBENOT_CALL_PUSH ? a : a + 1;
+    if (code == MAYBENOT_CORE_CALL_PUSH || code == MAYBENOT_CORE_CALL_SIM_NETWORK_STACK) {
+        uint64_t *event = code == MAYBENOT_CORE_CALL_PUSH ? a : a + 1;
         a[0] = chance(2000);
         event[0] = chance(11);
         event[1] = number();
-    } else if (code == MAYBENOT_CALL_SET_ACTION) {
+    } else if (code == MAYBENOT_CORE_CALL_SET_ACTION) {
         a[2] = chance(4);
         a[3] = number();
         a[4] = chance(300);
-    } else if (code == MAYBENOT_CALL_SET_TIMER) {
+    } else if (code == MAYBENOT_CORE_CALL_SET_TIMER) {
         a[2] = number();
-    } else if (code == MAYBENOT_CALL_PICK_NEXT || code == MAYBENOT_CALL_TURN) {
+    } else if (code == MAYBENOT_CORE_CALL_PICK_NEXT || code == MAYBENOT_CORE_CALL_TURN) {
         a[0] = chance(2000);
     }
 }
@@ -84,8 +84,8 @@ static uint64_t list(size_t words)
         rows[i][0] = chance(8);
         arguments(rows[i][0], rows[i] + 1);
     }
-    made = maybenot_core_calls(block, words, rows[0], ROWS * MAYBENOT_ROW_WORDS, answers[0], ROWS * MAYBENOT_ROW_WORDS);
-    return made == 0 ? 0 : answers[made - 1][MAYBENOT_ROW_NUMBER];
+    made = maybenot_core_calls(block, words, rows[0], ROWS * MAYBENOT_CORE_ROW_WORDS, answers[0], ROWS * MAYBENOT_CORE_ROW_WORDS);
+    return made == 0 ? 0 : answers[made - 1][MAYBENOT_CORE_ROW_NUMBER];
 }
 
 static uint64_t made(size_t call, size_t words)

@@ -31,18 +31,18 @@ static const char *const KINDS[10] = {
 
 /* The state, the rows and their answers: no heap. */
 static uint64_t block[WORDS];
-static uint64_t rows[TURNS][MAYBENOT_ROW_WORDS];
-static uint64_t answers[TURNS][MAYBENOT_ROW_WORDS];
+static uint64_t rows[TURNS][MAYBENOT_CORE_ROW_WORDS];
+static uint64_t answers[TURNS][MAYBENOT_CORE_ROW_WORDS];
 
 /* Makes the first rows as one list; how many were made. Ends the program where one of them was refused. */
 static size_t make(size_t count)
 {
-    size_t words = count * MAYBENOT_ROW_WORDS;
+    size_t words = count * MAYBENOT_CORE_ROW_WORDS;
     size_t made = (size_t)maybenot_core_calls(block, WORDS, rows[0], words, answers[0], words);
     size_t i;
     for (i = 0; i < made; i++) {
-        if (answers[i][MAYBENOT_ROW_NUMBER] != MAYBENOT_CORE_OK) {
-            printf("row %zu was refused: %" PRIu64 "\n", i, answers[i][MAYBENOT_ROW_NUMBER]);
+        if (answers[i][MAYBENOT_CORE_ROW_NUMBER] != MAYBENOT_CORE_OK) {
+            printf("row %zu was refused: %" PRIu64 "\n", i, answers[i][MAYBENOT_CORE_ROW_NUMBER]);
             exit(EXIT_FAILURE);
         }
     }
@@ -55,7 +55,7 @@ static void load(void)
     size_t i;
     for (i = 0; i < PACKETS_COUNT; i++) {
         uint64_t *row = rows[i];
-        row[0] = MAYBENOT_CALL_PUSH;
+        row[0] = MAYBENOT_CORE_CALL_PUSH;
         row[1] = MAYBENOT_CORE_NORMAL_SENT;
         row[2] = PACKETS[i].moment;
         row[4] = PACKETS[i].side;
@@ -72,7 +72,7 @@ static size_t run(void)
 {
     size_t i;
     for (i = 0; i < TURNS; i++) {
-        rows[i][0] = MAYBENOT_CALL_TURN;
+        rows[i][0] = MAYBENOT_CORE_CALL_TURN;
         rows[i][1] = 0; /* time: each turn goes on at the moment of the one before */
         rows[i][2] = 0; /* stop: at no event */
     }
@@ -81,10 +81,10 @@ static size_t run(void)
 
 static void print(const uint64_t *answer)
 {
-    const uint64_t *event = answer + MAYBENOT_ROW_OUT;
+    const uint64_t *event = answer + MAYBENOT_CORE_ROW_OUT;
     printf("%4" PRIu64 " ns  %s  %-13s  rounds %" PRIu64 "%s\n", event[MAYBENOT_CORE_ANSWER_MOMENT],
            event[MAYBENOT_CORE_ANSWER_SIDE] ? "client" : "server", KINDS[event[MAYBENOT_CORE_ANSWER_KIND]],
-           event[MAYBENOT_CORE_ANSWER_ROUNDS], answer[MAYBENOT_ROW_ACTIVITY] ? "  on the network" : "");
+           event[MAYBENOT_CORE_ANSWER_ROUNDS], answer[MAYBENOT_CORE_ROW_ACTIVITY] ? "  on the network" : "");
 }
 
 int main(void)
@@ -103,7 +103,7 @@ int main(void)
     for (i = 0; i + 1 < made; i++) {
         print(answers[i]);
     }
-    last = answers[made - 1] + MAYBENOT_ROW_OUT;
+    last = answers[made - 1] + MAYBENOT_CORE_ROW_OUT;
     if (last[MAYBENOT_CORE_ANSWER_CHOSEN] != 0) {
         printf("something is left\n");
         return EXIT_FAILURE;

@@ -13,7 +13,7 @@
 #include <string.h>
 
 #define MOST_ROWS 400
-#define MOST_WORDS (MAYBENOT_ROW_WORDS * (MOST_ROWS + 2))
+#define MOST_WORDS (MAYBENOT_CORE_ROW_WORDS * (MOST_ROWS + 2))
 
 /* ---- lengths */
 
@@ -63,35 +63,35 @@ static void copy(word *row, size_t count, const word *arguments) { memcpy(row + 
 /* The row of a call. Opening and acceptance are no calls of a list: a turn stands for them. */
 static void write_row(word *row, const struct call *c) {
   switch (c->what) {
-    case PUSH: row[0] = MAYBENOT_CALL_PUSH, ARGUMENTS(row, c->kind, c->moment, c->delay, c->side, c->padding, c->bypass, c->replace, c->machine); break;
-    case SET_ACTION: row[0] = MAYBENOT_CALL_SET_ACTION, ARGUMENTS(row, c->side, c->machine, c->kind, c->moment, c->delay, c->bypass, c->replace); break;
-    case CLEAR_ACTION: row[0] = MAYBENOT_CALL_CLEAR_ACTION, ARGUMENTS(row, c->side, c->machine); break;
-    case SET_TIMER: row[0] = MAYBENOT_CALL_SET_TIMER, ARGUMENTS(row, c->side, c->machine, c->moment); break;
-    case CLEAR_TIMER: row[0] = MAYBENOT_CALL_CLEAR_TIMER, ARGUMENTS(row, c->side, c->machine); break;
-    case PICK: row[0] = MAYBENOT_CALL_PICK_NEXT, ARGUMENTS(row, c->time); break;
-    case STEP: row[0] = MAYBENOT_CALL_SIM_NETWORK_STACK, ARGUMENTS(row, c->time, c->kind, c->moment, c->delay, c->side, c->padding, c->bypass, c->replace, c->machine); break;
-    default: row[0] = MAYBENOT_CALL_TURN, ARGUMENTS(row, c->time, below(2) ? 0 : random_word() & random_word() & random_word());
+    case PUSH: row[0] = MAYBENOT_CORE_CALL_PUSH, ARGUMENTS(row, c->kind, c->moment, c->delay, c->side, c->padding, c->bypass, c->replace, c->machine); break;
+    case SET_ACTION: row[0] = MAYBENOT_CORE_CALL_SET_ACTION, ARGUMENTS(row, c->side, c->machine, c->kind, c->moment, c->delay, c->bypass, c->replace); break;
+    case CLEAR_ACTION: row[0] = MAYBENOT_CORE_CALL_CLEAR_ACTION, ARGUMENTS(row, c->side, c->machine); break;
+    case SET_TIMER: row[0] = MAYBENOT_CORE_CALL_SET_TIMER, ARGUMENTS(row, c->side, c->machine, c->moment); break;
+    case CLEAR_TIMER: row[0] = MAYBENOT_CORE_CALL_CLEAR_TIMER, ARGUMENTS(row, c->side, c->machine); break;
+    case PICK: row[0] = MAYBENOT_CORE_CALL_PICK_NEXT, ARGUMENTS(row, c->time); break;
+    case STEP: row[0] = MAYBENOT_CORE_CALL_SIM_NETWORK_STACK, ARGUMENTS(row, c->time, c->kind, c->moment, c->delay, c->side, c->padding, c->bypass, c->replace, c->machine); break;
+    default: row[0] = MAYBENOT_CORE_CALL_TURN, ARGUMENTS(row, c->time, below(2) ? 0 : random_word() & random_word() & random_word());
   }
 }
 
 /* A turn that goes on where the last event was, at no stop or at few. */
 static void write_turn(word *row) {
   word one = 1ull << below(64);
-  row[0] = MAYBENOT_CALL_TURN;
+  row[0] = MAYBENOT_CORE_CALL_TURN;
   ARGUMENTS(row, below(3) ? 0 : below(1000), below(3) ? 0 : one | 1ull << below(26));
 }
 
 /* A row: unused words are noise. In a bad list now and then the code is no call, or a word is damaged. */
 static void draw_row(word *row, const word *w, size_t n, int turns, int bad) {
   struct call c = {0};
-  for (unsigned i = 0; i < MAYBENOT_ROW_WORDS; i++) row[i] = random_word();
+  for (unsigned i = 0; i < MAYBENOT_CORE_ROW_WORDS; i++) row[i] = random_word();
   some_call(&c, w, n);
   if (turns && below(4)) {
     write_turn(row);
   } else {
     write_row(row, &c);
   }
-  if (bad && !below(20)) row[below(MAYBENOT_ROW_WORDS)] = random_word() >> below(64);
+  if (bad && !below(20)) row[below(MAYBENOT_CORE_ROW_WORDS)] = random_word() >> below(64);
   if (bad && !below(20)) row[0] = below(2) ? 8 : below(2) ? MAX - below(3) : (word)below(8) | 1ull << (3 + below(61));
 }
 
@@ -100,10 +100,10 @@ static void draw_list(const word *w, size_t n) {
   size_t count = below(20) ? below(24) : below(MOST_ROWS + 1), room = count;
   int turns = !below(3), bad = !below(4);
   if (!below(6)) room = below(count + 2);
-  lend(&rows, MAYBENOT_ROW_WORDS * count + (below(2) ? 0 : below(MAYBENOT_ROW_WORDS)), below(2));
-  lend(&answers, MAYBENOT_ROW_WORDS * room + (below(2) ? 0 : below(MAYBENOT_ROW_WORDS)), below(2));
-  for (size_t i = 0; i < count; i++) draw_row(rows.lent + MAYBENOT_ROW_WORDS * i, w, n, turns, bad);
-  for (size_t i = MAYBENOT_ROW_WORDS * count; i < rows.length; i++) rows.lent[i] = below(8);
+  lend(&rows, MAYBENOT_CORE_ROW_WORDS * count + (below(2) ? 0 : below(MAYBENOT_CORE_ROW_WORDS)), below(2));
+  lend(&answers, MAYBENOT_CORE_ROW_WORDS * room + (below(2) ? 0 : below(MAYBENOT_CORE_ROW_WORDS)), below(2));
+  for (size_t i = 0; i < count; i++) draw_row(rows.lent + MAYBENOT_CORE_ROW_WORDS * i, w, n, turns, bad);
+  for (size_t i = MAYBENOT_CORE_ROW_WORDS * count; i < rows.length; i++) rows.lent[i] = below(8);
   for (size_t i = 0; i < answers.length; i++) answers.lent[i] = due[i] = OUT_BEFORE;
   if (rows.length) memcpy(rows_before, rows.lent, 8 * rows.length);
 }
@@ -128,12 +128,12 @@ static const char *hold(struct lot *l, word made) {
 static void count(struct lot *l, int sound, word made) {
   l->lists++;
   l->sound += sound;
-  l->asked += rows.length / MAYBENOT_ROW_WORDS;
+  l->asked += rows.length / MAYBENOT_CORE_ROW_WORDS;
   l->made += made;
   for (word i = 0; i < made; i++) {
-    word number = answers.lent[MAYBENOT_ROW_WORDS * i];
+    word number = answers.lent[MAYBENOT_CORE_ROW_WORDS * i];
     if (number < 11) l->answers[number]++;
-    l->turns += rows_before[MAYBENOT_ROW_WORDS * i] == MAYBENOT_CALL_TURN;
+    l->turns += rows_before[MAYBENOT_CORE_ROW_WORDS * i] == MAYBENOT_CORE_CALL_TURN;
   }
 }
 
@@ -161,9 +161,9 @@ static const char *once(struct lot *l) {
 
 static void tell(unsigned long i, const struct lot *l, const char *fault) {
   printf("list %lu: %s\n  length %zu, %zu words of rows, %zu words of answers\n", i, fault, l->length, rows.length, answers.length);
-  for (size_t r = 0; r < rows.length / MAYBENOT_ROW_WORDS && r < 12; r++) {
+  for (size_t r = 0; r < rows.length / MAYBENOT_CORE_ROW_WORDS && r < 12; r++) {
     printf("  row");
-    for (size_t k = 0; k < MAYBENOT_ROW_WORDS; k++) printf(" %llu", (unsigned long long)rows_before[MAYBENOT_ROW_WORDS * r + k]);
+    for (size_t k = 0; k < MAYBENOT_CORE_ROW_WORDS; k++) printf(" %llu", (unsigned long long)rows_before[MAYBENOT_CORE_ROW_WORDS * r + k]);
     printf("\n");
   }
 }

@@ -4,7 +4,7 @@
 #include "reading.h"
 #include <string.h>
 
-#define ROW MAYBENOT_ROW_WORDS
+#define ROW MAYBENOT_CORE_ROW_WORDS
 
 word __real_maybenot_core_calls(word *, size_t, const word *, size_t, word *, size_t);
 
@@ -15,7 +15,7 @@ static int now_and_then(void) { return ++turn % 50 == 0; }
 
 /* Whether the list goes on after a turn with this answer. */
 static int goes_on(const word *row, const word *answer) {
-  const word *chosen = answer + MAYBENOT_ROW_OUT;
+  const word *chosen = answer + MAYBENOT_CORE_ROW_OUT;
   word stop = row[2], kind = chosen[MAYBENOT_CORE_ANSWER_KIND];
   if (answer[0]) return FAULT == 1; /* a refused turn does not end the list */
   if (!chosen[MAYBENOT_CORE_ANSWER_CHOSEN]) return FAULT == 2; /* nothing left does not end it */
@@ -37,19 +37,19 @@ static word row_by_row(word *b, size_t n, const word *calls, size_t rows, word *
   static word kept;
   word last = FAULT == 8 ? kept : 0; /* the last event of the list before */
   size_t i = 0;
-  for (; i < rows && i < room && calls[ROW * i] <= MAYBENOT_CALL_TURN; i++) {
+  for (; i < rows && i < room && calls[ROW * i] <= MAYBENOT_CORE_CALL_TURN; i++) {
     word row[ROW], *answer = answers + ROW * i;
     memcpy(row, calls + ROW * i, sizeof row);
-    if (row[0] == MAYBENOT_CALL_TURN) row[1] = turn_time(row[1], last);
+    if (row[0] == MAYBENOT_CORE_CALL_TURN) row[1] = turn_time(row[1], last);
     if (FAULT == 9 && i == 3 && now_and_then()) { /* a row skipped */
       memset(answer, 0, sizeof row);
       continue;
     }
     __real_maybenot_core_calls(b, n, row, ROW, answer, ROW);
-    if (answer[1] && (row[0] == MAYBENOT_CALL_PICK_NEXT || row[0] == MAYBENOT_CALL_TURN))
-      if (FAULT != 10 || row[0] == MAYBENOT_CALL_TURN) last = answer[MAYBENOT_ROW_OUT + MAYBENOT_CORE_ANSWER_MOMENT]; /* 10: a choice's event does not count */
+    if (answer[1] && (row[0] == MAYBENOT_CORE_CALL_PICK_NEXT || row[0] == MAYBENOT_CORE_CALL_TURN))
+      if (FAULT != 10 || row[0] == MAYBENOT_CORE_CALL_TURN) last = answer[MAYBENOT_CORE_ROW_OUT + MAYBENOT_CORE_ANSWER_MOMENT]; /* 10: a choice's event does not count */
     if (FAULT == 11 && answer[0] == 10) return i + 1; /* the list ends after a 10 */
-    if (row[0] == MAYBENOT_CALL_TURN && !goes_on(row, answer)) return i + 1;
+    if (row[0] == MAYBENOT_CORE_CALL_TURN && !goes_on(row, answer)) return i + 1;
   }
   kept = last;
   return i;

@@ -40,18 +40,18 @@ static uint64_t step(struct list *l, uint64_t time, const uint64_t *e, uint64_t 
 /* Whether the chosen event is one of those that `stop` names. */
 static bool stops(uint64_t stop, const uint64_t *chosen)
 {
-    return (stop & MAYBENOT_STOP(chosen[MAYBENOT_CORE_ANSWER_SIDE], chosen[MAYBENOT_CORE_ANSWER_KIND])) != 0;
+    return (stop & MAYBENOT_CORE_STOP(chosen[MAYBENOT_CORE_ANSWER_SIDE], chosen[MAYBENOT_CORE_ANSWER_KIND])) != 0;
 }
 
 /* A turn; whether the list goes on after it. */
 static bool turn(struct list *l, uint64_t time, uint64_t stop, uint64_t *answer)
 {
-    uint64_t *chosen = answer + MAYBENOT_ROW_OUT;
+    uint64_t *chosen = answer + MAYBENOT_CORE_ROW_OUT;
     answer[0] = choose(l, time > l->last ? time : l->last, chosen);
     if (answer[0] != MAYBENOT_CORE_OK || chosen[MAYBENOT_CORE_ANSWER_CHOSEN] == 0) {
         return false;
     }
-    answer[0] = step(l, chosen[MAYBENOT_CORE_ANSWER_MOMENT], chosen + MAYBENOT_CORE_ANSWER_KIND, answer + MAYBENOT_ROW_ACTIVITY);
+    answer[0] = step(l, chosen[MAYBENOT_CORE_ANSWER_MOMENT], chosen + MAYBENOT_CORE_ANSWER_KIND, answer + MAYBENOT_CORE_ROW_ACTIVITY);
     return answer[0] == MAYBENOT_CORE_OK && !stops(stop, chosen);
 }
 
@@ -61,28 +61,28 @@ static bool make(struct list *l, const uint64_t *row, uint64_t *answer)
     const uint64_t *a = row + 1;
     uint64_t *b = l->block;
     size_t n = l->words;
-    memset(answer, 0, MAYBENOT_ROW_WORDS * sizeof *answer);
+    memset(answer, 0, MAYBENOT_CORE_ROW_WORDS * sizeof *answer);
     switch (row[0]) {
-    case MAYBENOT_CALL_PUSH:
+    case MAYBENOT_CORE_CALL_PUSH:
         answer[0] = maybenot_core_push_sim(b, n, a[0], a[1], a[2], a[3], a[4], a[5], a[6], a[7]);
         return true;
-    case MAYBENOT_CALL_SET_ACTION:
+    case MAYBENOT_CORE_CALL_SET_ACTION:
         answer[0] = maybenot_core_set_action(b, n, a[0], a[1], a[2], a[3], a[4], a[5], a[6]);
         return true;
-    case MAYBENOT_CALL_CLEAR_ACTION:
+    case MAYBENOT_CORE_CALL_CLEAR_ACTION:
         answer[0] = maybenot_core_clear_action(b, n, a[0], a[1]);
         return true;
-    case MAYBENOT_CALL_SET_TIMER:
+    case MAYBENOT_CORE_CALL_SET_TIMER:
         answer[0] = maybenot_core_set_timer(b, n, a[0], a[1], a[2]);
         return true;
-    case MAYBENOT_CALL_CLEAR_TIMER:
+    case MAYBENOT_CORE_CALL_CLEAR_TIMER:
         answer[0] = maybenot_core_clear_timer(b, n, a[0], a[1]);
         return true;
-    case MAYBENOT_CALL_PICK_NEXT:
-        answer[0] = choose(l, a[0], answer + MAYBENOT_ROW_OUT);
+    case MAYBENOT_CORE_CALL_PICK_NEXT:
+        answer[0] = choose(l, a[0], answer + MAYBENOT_CORE_ROW_OUT);
         return true;
-    case MAYBENOT_CALL_SIM_NETWORK_STACK:
-        answer[0] = step(l, a[0], a + 1, answer + MAYBENOT_ROW_OUT);
+    case MAYBENOT_CORE_CALL_SIM_NETWORK_STACK:
+        answer[0] = step(l, a[0], a + 1, answer + MAYBENOT_CORE_ROW_OUT);
         return true;
     default:
         return turn(l, a[0], a[1], answer);
@@ -92,12 +92,12 @@ static bool make(struct list *l, const uint64_t *row, uint64_t *answer)
 uint64_t calls_one_by_one(uint64_t *block, size_t words, const uint64_t *calls, size_t calls_words, uint64_t *answers, size_t answers_words)
 {
     struct list l = {block, words, 0};
-    size_t rows = calls_words / MAYBENOT_ROW_WORDS;
-    size_t room = answers_words / MAYBENOT_ROW_WORDS;
+    size_t rows = calls_words / MAYBENOT_CORE_ROW_WORDS;
+    size_t room = answers_words / MAYBENOT_CORE_ROW_WORDS;
     size_t made = 0;
     bool goes_on = true;
-    while (goes_on && made < rows && made < room && calls[made * MAYBENOT_ROW_WORDS] <= MAYBENOT_CALL_TURN) {
-        goes_on = make(&l, calls + made * MAYBENOT_ROW_WORDS, answers + made * MAYBENOT_ROW_WORDS);
+    while (goes_on && made < rows && made < room && calls[made * MAYBENOT_CORE_ROW_WORDS] <= MAYBENOT_CORE_CALL_TURN) {
+        goes_on = make(&l, calls + made * MAYBENOT_CORE_ROW_WORDS, answers + made * MAYBENOT_CORE_ROW_WORDS);
         made++;
     }
     return made;

@@ -77,6 +77,9 @@ refused-so w c a left h o = go (size-decided (length w))
     go (yes s) = o .bad s h
     go (no d) = o .wrong-length d
 
+pub refused-left : (w : List ℕ) (c : Call) (a : Answer) (left : List ℕ) → (Accepted w → ⊥) → Outcome w c a left → left ≡ w
+refused-left w c a left h o = refused-so w c a left h o .1
+
 pub same-refusal :
     (w : List ℕ) (c : Call) (a b : Answer) (left right : List ℕ) → (Accepted w → ⊥) → Outcome w c a left → Outcome w c b right → (a ≡ b) × (left ≡ right)
 same-refusal w c a b left right h o p =
