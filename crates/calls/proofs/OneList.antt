@@ -25,14 +25,14 @@ use Rattle.calls.proofs.Listing.{first-is, rest-is, none-made, after-mo
 -- ---- two runs of the same calls
 
 -- accepted words that hold one state, or the same words
-record Kin (w v : List ℕ) : Type 0 where
+pub record Kin (w v : List ℕ) : Type 0 where
   pub one : Accepted w
   pub other : Accepted v
   pub state : stateOf w ≡ stateOf v
   pub spare : (i : ℕ) → Spare i → getD w i 0 ≡ getD v i 0
   pub size : length w ≡ length v
 
-abbrev Same : List ℕ → List ℕ → Type 0
+abbrev pub Same : List ℕ → List ℕ → Type 0
 Same w v = Kin w v ⊎ ((Accepted w → ⊥) × (w ≡ v))
 
 same-call :
@@ -154,18 +154,14 @@ more-rows w v l k ls ks e s =
       words = subst (λ (x : List ℕ). Same x (wordsAfter v (k ++ allOf ks))) (sym (after-more w l (allOf ls))) (subst (Same (wordsAfter (wordsAfter w l) (allOf ls))) (sym (after-more v k (allOf ks))) (s .words));
     }
 
-pub same-rows :
-    (rows : List ℕ) (i n last : ℕ) (w v : List ℕ) (ls ks : List (List Made)) → Same w v → Runs w (allOf ls) → Runs v (allOf ks) → Follows rows i n last ls → Follows rows i n last ks
-    → SameRows w v ls ks
-unfolding Follows allOf
-same-rows rows i zero last w v [] [] s r q f g = none-rows w v s
-same-rows rows i zero last w v [] (k ∷ ks) s r q f g = absurd g
-same-rows rows i zero last w v (l ∷ ls) ks s r q f g = absurd f
-same-rows rows i (suc n) last w v [] [] s r q f g = none-rows w v s
-same-rows rows i (suc n) last w v [] (k ∷ ks) s r q f g = absurd (true≢false (sym (g .0) ∙ f))
-same-rows rows i (suc n) last w v (l ∷ ls) [] s r q f g = absurd (true≢false (sym (f .0) ∙ g))
-same-rows rows i (suc n) last w v (l ∷ ls) (k ∷ ks) s r q f g =
-    go (endsAfter rows i l) refl
+-- one row, and what follows it
+row-and-rest :
+    (rows : List ℕ) (i n last : ℕ) (w v : List ℕ) (l k : List Made) (ls ks : List (List Made)) → Same w v → Runs w (l ++ allOf ls) → Runs v (k ++ allOf ks)
+    → Follows rows i (suc n) last (l ∷ ls) → Follows rows i (suc n) last (k ∷ ks)
+    → ((last′ : ℕ) (w′ v′ : List ℕ) → Same w′ v′ → Runs w′ (allOf ls) → Runs v′ (allOf ks) → Follows rows (suc i) n last′ ls → Follows rows (suc i) n last′ ks → SameRows w′ v′ ls ks)
+    → SameRows w v (l ∷ ls) (k ∷ ks)
+unfolding Follows
+row-and-rest rows i n last w v l k ls ks s r q f g on = go (endsAfter rows i l) refl
   where
     rl : Runs w l
     rl = runs-front w l (allOf ls) r
@@ -183,8 +179,21 @@ same-rows rows i (suc n) last w v (l ∷ ls) (k ∷ ks) s r q f g =
         (more-rows w v l k [] [] (one .0) (none-rows (wordsAfter w l) (wordsAfter v k) (one .1))))
     go false e =
         more-rows w v l k ls ks (one .0)
-        (same-rows rows (suc i) n (lastAfter (codeAt rows i) last (firstAnswer l)) (wordsAfter w l) (wordsAfter v k) ls ks (one .1) (runs-back w l (allOf ls) r) (runs-back v k (allOf ks) q) (f .1 .1 .1 e)
+        (on (lastAfter (codeAt rows i) last (firstAnswer l)) (wordsAfter w l) (wordsAfter v k) (one .1) (runs-back w l (allOf ls) r) (runs-back v k (allOf ks) q) (f .1 .1 .1 e)
         (subst (λ (a : Answer). Follows rows (suc i) n (lastAfter (codeAt rows i) last a) ks) (sym (equal-first l k (one .0))) (g .1 .1 .1 (sym (ends-equal rows i l k (one .0)) ∙ e))))
+
+pub same-rows :
+    (rows : List ℕ) (i n last : ℕ) (w v : List ℕ) (ls ks : List (List Made)) → Same w v → Runs w (allOf ls) → Runs v (allOf ks) → Follows rows i n last ls → Follows rows i n last ks
+    → SameRows w v ls ks
+unfolding Follows allOf
+same-rows rows i zero last w v [] [] s r q f g = none-rows w v s
+same-rows rows i zero last w v [] (k ∷ ks) s r q f g = absurd g
+same-rows rows i zero last w v (l ∷ ls) ks s r q f g = absurd f
+same-rows rows i (suc n) last w v [] [] s r q f g = none-rows w v s
+same-rows rows i (suc n) last w v [] (k ∷ ks) s r q f g = absurd (true≢false (sym (g .0) ∙ f))
+same-rows rows i (suc n) last w v (l ∷ ls) [] s r q f g = absurd (true≢false (sym (f .0) ∙ g))
+same-rows rows i (suc n) last w v (l ∷ ls) (k ∷ ks) s r q f g =
+    row-and-rest rows i n last w v l k ls ks s r q f g (λ last′ w′ v′ s′ r′ q′ f′ g′. same-rows rows (suc i) n last′ w′ v′ ls ks s′ r′ q′ f′ g′)
 
 -- ---- from the same words
 
