@@ -53,10 +53,10 @@ extern "C" {
 #define MAYBENOT_CORE_MAX_RATE UINT64_C(4294967295)              /* packets a window; the least is 1 */
 
 /*
- * Stack to keep free for a call, in bytes. Measured, not proved: on x86-64 a choice takes 1,232 bytes, a step 640 and every
- * other call less than 300, arguments, return address and the calling function's own frame included. That is the deepest
- * of 110,000 random calls on a painted stack (runs/stack.c, which runs/bindings runs and holds to this number). No function
- * of the archive calls itself.
+ * Stack to keep free for a call, in bytes. Measured, not proved: on x86-64 a list of calls takes 1,568 bytes, a choice 1,488,
+ * a step 880 and every other call less than 500, arguments, return address and the calling function's own frame included. That
+ * is the deepest of 110,000 random calls on a painted stack (runs/stack.c, which runs/bindings runs and holds to this
+ * number). No function of the archive calls itself.
  */
 #define MAYBENOT_CORE_STACK_BYTES 2048u
 
@@ -278,7 +278,7 @@ enum {
  *
  * An answer: the number of the refusal or 0; then what the function writes to `out`, ten words of a choice, one of a step,
  * none of the others; then zeros. A refused call does not end the list. Where the words are too short or no accepted state,
- * every row is answered with 1 or 2, and the block is left as it was. After a 10 the rows that follow are made and get 3.
+ * every row that is made is answered with 1 or 2, and the block is left as it was. After a 10 the rows that follow are made and get 3.
  *
  * A TURN is a choice and, where it chose an event, that event's network step at the event's own moment. The choice is made
  * at the later of `time` and the moment of the last event that a choice or a turn of this same list chose, so that a run is

@@ -98,9 +98,16 @@ impl Call {
         }
     }
 
-    /// How many walks it may take, R from 256 on.
-    pub fn goal(self) -> f64 {
-        if self == Call::Accepted { 1.5 } else { 1.7 }
+    /// How many walks it may take on so many records, R from 256 on.
+    pub fn goal(self, records: usize) -> f64 {
+        let large = records >= 1984;
+        match self {
+            Call::Accepted => 1.5,
+            Call::PickThree | Call::PickEnd if large => 1.7,
+            Call::PickThree | Call::PickEnd => 2.0,
+            _ if large => 1.3,
+            _ => 1.7,
+        }
     }
 
     /// The rounds that a choice makes.

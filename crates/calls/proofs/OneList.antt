@@ -12,13 +12,13 @@ use Rattle.rules.specs.State.{State}
 use Rattle.layout.specs.Accepted.{Accepted}
 use Rattle.layout.specs.Layout.{stateOf}
 use Rattle.layout.specs.Spare.{Spare}
-use Rattle.layout.proofs.Theorems.{fixed}
 use Rattle.simulator.specs.Alike.{Alike}
 use Rattle.simulator.specs.Outcome.{Outcome}
 use Rattle.simulator.specs.Demand.{Made, Runs, wordsAfter}
+use Rattle.layout.proofs.Theorems.{fixed}
 use Rattle.simulator.proofs.OneOutcome.{refused-left, same-refusal}
 use Rattle.calls.specs.Told.{isSet, numberIn}
-use Rattle.calls.specs.Rows.{codeAt, wordAt, isRow, isTurn, rowCalls, stepAfter, endsAt, lastAfter, answerWords, turnWords}
+use Rattle.calls.specs.Rows.{codeAt, wordAt, isTurn, rowCalls, stepAfter, endsAt, lastAfter, answerWords, turnWords}
 use Rattle.calls.specs.Listed.{callsOf, firstAnswer, lastNumber, rowWords, endsAfter, Follows, allOf, answersOf}
 use Rattle.calls.proofs.Listing.{first-is, rest-is, none-made, after-more, turn-calls, call-calls}
 

@@ -1,14 +1,14 @@
 -- The laws of one row: what a call's answer is in words, which call a code names, and a turn. Assumes nothing.
-use Prim.Native.Nat.{ℕ, zero, suc, _+_, _-_, _*_, _/_, _%_, _≤_, _<_, max}
-use mathlib.Core.Path.{_≡_, refl, sym, ap, ap₂, subst, _∙_}
-use mathlib.Core.Bool.{Bool, true, false, _||_, _&&_, not}
+use Prim.Native.Nat.{ℕ, _≤_, _<_, max}
+use mathlib.Core.Path.{_≡_, refl, sym, ap, subst, _∙_}
+use mathlib.Core.Bool.{Bool, true, false}
 use mathlib.Core.List.{List, [], _∷_, _++_}
-use mathlib.Core.Option.{Option, none, some}
+use mathlib.Core.Option.{Option}
 use native.Mathlib.Omega.{arith}
-use lib.Dec.{eqb, ltb}
-use lib.ListN.{length, getD, length-append}
-use borrow.Author.Tests.{eq-eqb, ne-eqb, lt-ltb, le-ltb, ltb-true, ltb-false}
-use Rattle.rules.specs.Basics.{if_then_else_, client, server, rank}
+use lib.Dec.{ltb}
+use lib.ListN.{getD}
+use borrow.Author.Tests.{eq-eqb, ne-eqb, ltb-true, ltb-false}
+use Rattle.rules.specs.Basics.{if_then_else_}
 use Rattle.rules.specs.State.{Event}
 use Rattle.rules.specs.Choice.{Answer, done, event, nothing-left, yes-step, no-step, refused}
 use Rattle.rules.specs.Arguments.{Call, EventIn, ActionIn, push, set-action, clear-action, set-timer, clear-timer, pick-next, sim-network-stack}
@@ -18,25 +18,24 @@ use Rattle.rules.specs.ChoiceRound.{Slot}
 use Rattle.event.specs.declared.answer.Chosen.{Chosen}
 use Rattle.event.specs.declared.answer.Finished.{Finished}
 use Rattle.event.specs.declared.answer.Refusal.{Refusal}
-use Rattle.event.specs.declared.answer.Choice.the-variants as choice
 use Rattle.event.specs.declared.answer.Answer.{Answer as CodeAnswer}
 use Rattle.event.specs.declared.answer.Choice.{Choice}
 use Rattle.event.specs.declared.answer.Step.{Step}
 use Rattle.layout.specs.Accepted.{Accepted}
-use Rattle.simulator.specs.Numbers.{Lent}
+use Rattle.simulator.specs.Numbers.{Lent, slotIn}
 use Rattle.simulator.specs.Outcome.{Outcome}
-use Rattle.simulator.specs.Demand.{Made, Runs, wordsAfter}
+use Rattle.simulator.specs.Demand.{Made}
 use Rattle.simulator.proofs.Working.{lent-outcome}
 use Rattle.simulator.proofs.OneOutcome.{choice-not-done}
 use Rattle.event.proofs.Numbers.{event-known, event-unknown}
 use Rattle.layout.proofs.Order.{rank-kind}
-use Rattle.simulator.specs.Numbers.{slotIn}
 use Rattle.calls.specs.Told.{isSet, eventFor, actionFor, slotFor, numberIn}
-use Rattle.calls.proofs.Telling.{slot-is}
 use Rattle.calls.specs.Answers.{choiceWords, stepWords}
-use Rattle.calls.specs.Rows.{codeAt, wordAt, isTurn, callFor, stepOn, stepAfter, rowCalls, bit, zeros, answerWords, turnWords}
-use Rattle.calls.specs.Listed.{callsOf, firstAnswer, rowWords, RowMade}
+use Rattle.calls.specs.Rows.{codeAt, wordAt, isTurn, callFor, stepAfter, rowCalls, zeros, answerWords, turnWords}
+use Rattle.calls.specs.Listed.{firstAnswer, RowMade}
 use Rattle.calls.specs.Made.{CallMade, TurnMade}
+use Rattle.calls.proofs.Telling.{slot-is}
+use Rattle.event.specs.declared.answer.Choice.the-variants as choice
 
 -- ---- answers as words
 

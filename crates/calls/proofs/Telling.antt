@@ -1,6 +1,6 @@
 -- What a call's numbers stand for, and the promise of a call with numbers from that of the call which it makes. Assumes nothing.
 use Prim.Native.Nat.{ℕ}
-use mathlib.Core.Path.{_≡_, refl, sym, ap, subst, _∙_}
+use mathlib.Core.Path.{_≡_, refl, ap, subst, _∙_}
 use mathlib.Core.Bool.{Bool, true, false}
 use mathlib.Core.List.{List}
 use Rattle.rules.specs.Basics.{if_then_else_, client, server}

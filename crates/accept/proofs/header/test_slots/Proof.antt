@@ -1,3 +1,4 @@
+-- `accept::header::test_slots` meets its contract. Assumes nothing.
 use native.Mathlib.Omega.{arith}
 use borrow.Author.Needs.{needs}
 use Rattle.accept.proofs.Slots.{wrong-past-client, wrong-past-server, wrong-client, wrong-server, client-most, server-most, found-all}

@@ -1,8 +1,8 @@
 -- `accept::records::chain_ok` meets its contract. Assumes nothing.
 use native.Mathlib.Omega.{arith}
+use borrow.Author.Needs.{needs}
 use Rattle.layout.specs.Records.{Chain}
 use Rattle.layout.proofs.Walk.{Rest, rest-all, walk-ended, walk-outside, walk-unfit, walk-disorder, walk-turn, walk-ends}
-use borrow.Author.Needs.{needs}
 use Rattle.accept.proofs.records.chain_ok.Statement.{statement}
 use Rattle.accept.proofs.records.chain_ok.Tie as tie
 

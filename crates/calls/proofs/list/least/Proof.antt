@@ -1,15 +1,11 @@
+-- `calls::list::least` meets its contract. Assumes nothing.
 use Rattle.calls.proofs.Listing.{least-one, least-other}
-use borrow.Author.Needs.{needs}
 use Rattle.calls.proofs.list.least.Statement.{statement}
 use Rattle.calls.proofs.list.least.Tie as tie
-use Rattle.calls.proofs.list.least.Reads as reads
-use Rattle.calls.proofs.list.least.Lts as lts
 
--- src/list.rt:18:9
 returns : tie.Need-returns
 returns c = search least-one
 
--- src/list.rt:14:1
 returns-2 : tie.Need-returns-2
 returns-2 c = search least-other
 

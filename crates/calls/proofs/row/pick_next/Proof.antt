@@ -1,30 +1,21 @@
+-- `calls::row::pick_next` meets its contract. Assumes nothing.
 use Rattle.calls.proofs.RowLaws.{choice-made}
 use borrow.Author.Needs.{needs}
 use Rattle.calls.proofs.row.pick_next.Statement.{statement}
 use Rattle.calls.proofs.row.pick_next.Tie as tie
-use Rattle.calls.proofs.row.pick_next.Reads as reads
-use Rattle.calls.proofs.row.pick_next.Lts as lts
-use Rattle.calls.proofs.row.choice_row.Reads as choice-row-reads
-use Rattle.calls.proofs.row.word.Reads as word-reads
-use Rattle.simulator.proofs.choice.pick_next_on.Reads as pick-next-on-reads
 
--- src/row.rt:153:9
 word-requires : tie.Need-word-requires
 word-requires c κs = search needs
 
--- src/row.rt:154:9
 pick-next-on-requires : tie.Need-pick-next-on-requires
 pick-next-on-requires c κs = search needs
 
--- src/row.rt:155:5
 choice-row-requires : tie.Need-choice-row-requires
 choice-row-requires c κs = search needs
 
--- src/row.rt:149:1
 same-length : tie.Need-same-length
 same-length c = search needs
 
--- src/row.rt:149:1
 returns : tie.Need-returns
 returns c = choice-made (c .before .before .before .before .before .before .before .before .before .args .block .now) _ _ (c .before .before .before .pick-next-on .result) _ _ (c .before .before .before .before .before .before .word .ensures) (c .before .before .before .pick-next-on .ensures) (c .choice-row .ensures)
 

@@ -1,69 +1,49 @@
+-- `calls::row::push_sim` meets its contract. Assumes nothing.
 use mathlib.Core.Path.{_∙_}
 use Rattle.calls.proofs.RowLaws.{push-made, event-words}
 use borrow.Author.Needs.{needs}
 use Rattle.calls.proofs.row.push_sim.Statement.{statement}
 use Rattle.calls.proofs.row.push_sim.Tie as tie
-use Rattle.calls.proofs.row.push_sim.Reads as reads
-use Rattle.calls.proofs.row.push_sim.Lts as lts
-use Rattle.calls.proofs.row.number_words.Reads as number-words-reads
-use Rattle.calls.proofs.row.word.Reads as word-reads
-use Rattle.calls.proofs.told.event_from.Reads as event-from-reads
-use Rattle.calls.proofs.told.number.Reads as number-reads
-use Rattle.simulator.proofs.push.push_sim_on.Reads as push-sim-on-reads
 
--- src/row.rt:89:9
 word-requires : tie.Need-word-requires
 word-requires c κs = search needs
 
--- src/row.rt:90:9
 word-requires-2 : tie.Need-word-requires-2
 word-requires-2 c κs = search needs
 
--- src/row.rt:91:9
 word-requires-3 : tie.Need-word-requires-3
 word-requires-3 c κs = search needs
 
--- src/row.rt:92:9
 word-requires-4 : tie.Need-word-requires-4
 word-requires-4 c κs = search needs
 
--- src/row.rt:93:9
 word-requires-5 : tie.Need-word-requires-5
 word-requires-5 c κs = search needs
 
--- src/row.rt:94:9
 word-requires-6 : tie.Need-word-requires-6
 word-requires-6 c κs = search needs
 
--- src/row.rt:95:9
 word-requires-7 : tie.Need-word-requires-7
 word-requires-7 c κs = search needs
 
--- src/row.rt:96:9
 word-requires-8 : tie.Need-word-requires-8
 word-requires-8 c κs = search needs
 
--- src/row.rt:97:9
 event-from-requires : tie.Need-event-from-requires
 event-from-requires c κs = search needs
 
--- src/row.rt:98:9
 push-sim-on-requires : tie.Need-push-sim-on-requires
 push-sim-on-requires c κs = c .before .before .before .before .before .before .before .before .before .before .before .before .before .pre .0
 
--- src/row.rt:99:18
 number-requires : tie.Need-number-requires
 number-requires c κs = search needs
 
--- src/row.rt:99:5
 number-words-requires : tie.Need-number-words-requires
 number-words-requires c κs = search needs
 
--- src/row.rt:85:1
 same-length : tie.Need-same-length
 same-length c = search needs
 
--- src/row.rt:85:1
 returns : tie.Need-returns
 returns c = push-made (c .before .before .before .before .before .before .before .before .before .before .before .before .before .before .before .before .before .before .args .block .now) (c .before .before .before .before .push-sim-on .result) _ _ _ (c .before .number .ensures) (c .number-words .ensures) _ _ (c .before .before .before .before .before .before .before .event-from .ensures ∙ event-words _ _ _ _ _ _ _ _ _ _ _ _ _ _ _ _ (c .before .before .before .before .before .before .before .before .before .before .before .before .before .before .before .word .ensures) (c .before .before .before .before .before .before .before .before .before .before .before .before .before .before .word2 .ensures) (c .before .before .before .before .before .before .before .before .before .before .before .before .before .word3 .ensures) (c .before .before .before .before .before .before .before .before .before .before .before .before .word4 .ensures) (c .before .before .before .before .before .before .before .before .before .before .before .word5 .ensures) (c .before .before .before .before .before .before .before .before .before .before .word6 .ensures) (c .before .before .before .before .before .before .before .before .before .word7 .ensures) (c .before .before .before .before .before .before .before .before .word8 .ensures)) (c .before .before .before .before .push-sim-on .ensures)
 

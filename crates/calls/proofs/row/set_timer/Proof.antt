@@ -1,48 +1,33 @@
+-- `calls::row::set_timer` meets its contract. Assumes nothing.
 use Rattle.calls.proofs.RowLaws.{set-timer-made}
 use borrow.Author.Needs.{needs}
 use Rattle.calls.proofs.row.set_timer.Statement.{statement}
 use Rattle.calls.proofs.row.set_timer.Tie as tie
-use Rattle.calls.proofs.row.set_timer.Reads as reads
-use Rattle.calls.proofs.row.set_timer.Lts as lts
-use Rattle.calls.proofs.row.number_words.Reads as number-words-reads
-use Rattle.calls.proofs.row.word.Reads as word-reads
-use Rattle.calls.proofs.told.is_set.Reads as is-set-reads
-use Rattle.calls.proofs.told.number.Reads as number-reads
-use Rattle.simulator.proofs.slots.set_timer_on.Reads as set-timer-on-reads
 
--- src/row.rt:132:31
 word-requires : tie.Need-word-requires
 word-requires c κs = search needs
 
--- src/row.rt:132:9
 is-set-requires : tie.Need-is-set-requires
 is-set-requires c κs = search needs
 
--- src/row.rt:133:9
 word-requires-2 : tie.Need-word-requires-2
 word-requires-2 c κs = search needs
 
--- src/row.rt:134:9
 word-requires-3 : tie.Need-word-requires-3
 word-requires-3 c κs = search needs
 
--- src/row.rt:135:9
 set-timer-on-requires : tie.Need-set-timer-on-requires
 set-timer-on-requires c κs = search needs
 
--- src/row.rt:136:18
 number-requires : tie.Need-number-requires
 number-requires c κs = search needs
 
--- src/row.rt:136:5
 number-words-requires : tie.Need-number-words-requires
 number-words-requires c κs = search needs
 
--- src/row.rt:128:1
 same-length : tie.Need-same-length
 same-length c = search needs
 
--- src/row.rt:128:1
 returns : tie.Need-returns
 returns c = set-timer-made (c .before .before .before .before .before .before .before .before .before .before .before .before .args .block .now) (c .before .before .before .before .set-timer-on .result) _ _ _ (c .before .number .ensures) (c .number-words .ensures) _ _ _ _ _ (c .before .before .before .before .before .before .before .before .is-set .ensures) (c .before .before .before .before .before .before .before .before .before .word .ensures) (c .before .before .before .before .before .before .before .word2 .ensures) _ _ (c .before .before .before .before .before .before .word3 .ensures) (c .before .before .before .before .set-timer-on .ensures)
 

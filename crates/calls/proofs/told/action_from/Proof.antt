@@ -1,20 +1,15 @@
+-- `calls::told::action_from` meets its contract. Assumes nothing.
 use Rattle.calls.proofs.Telling.{action-in}
 use borrow.Author.Needs.{needs}
 use Rattle.calls.proofs.told.action_from.Statement.{statement}
 use Rattle.calls.proofs.told.action_from.Tie as tie
-use Rattle.calls.proofs.told.action_from.Reads as reads
-use Rattle.calls.proofs.told.action_from.Lts as lts
-use Rattle.calls.proofs.told.is_set.Reads as is-set-reads
 
--- src/told.rt:69:17
 is-set-requires : tie.Need-is-set-requires
 is-set-requires c κs = search needs
 
--- src/told.rt:70:18
 is-set-requires-2 : tie.Need-is-set-requires-2
 is-set-requires-2 c κs = search needs
 
--- src/told.rt:56:1
 returns : tie.Need-returns
 returns c = action-in _ _ _ (c .before .before .args .bypass) (c .before .before .args .replace) _ _ (c .before .is-set .ensures) (c .is-set2 .ensures)
 

@@ -1,70 +1,51 @@
+-- `calls::turn::turn_row` meets its contract. Assumes nothing.
 use Rattle.calls.proofs.RowLaws.{turn-laid}
 use borrow.Author.Needs.{needs}
 use Rattle.calls.proofs.turn.turn_row.Statement.{statement}
 use Rattle.calls.proofs.turn.turn_row.Tie as tie
-use Rattle.calls.proofs.turn.turn_row.Reads as reads
-use Rattle.calls.proofs.turn.turn_row.Lts as lts
-use Rattle.calls.proofs.written.choice_words.Reads as choice-words-reads
-use Rattle.calls.proofs.written.step_number.Reads as step-number-reads
-use Rattle.calls.proofs.written.step_words.Reads as step-words-reads
 
--- src/turn.rt:32:9
 step-number-requires : tie.Need-step-number-requires
 step-number-requires c κs = search needs
 
--- src/turn.rt:33:13
 choice-words-requires : tie.Need-choice-words-requires
 choice-words-requires c κs = search needs
 
--- src/turn.rt:34:13
 step-words-requires : tie.Need-step-words-requires
 step-words-requires c κs = search needs
 
--- src/turn.rt:37:9
 array-read-t10 : tie.Need-array-read-t10
 array-read-t10 c = search needs
 
--- src/turn.rt:38:9
 array-read-t13 : tie.Need-array-read-t13
 array-read-t13 c = search needs
 
--- src/turn.rt:39:9
 array-read-t16 : tie.Need-array-read-t16
 array-read-t16 c = search needs
 
--- src/turn.rt:40:9
 array-read-t19 : tie.Need-array-read-t19
 array-read-t19 c = search needs
 
--- src/turn.rt:41:9
 array-read-t22 : tie.Need-array-read-t22
 array-read-t22 c = search needs
 
--- src/turn.rt:42:9
 array-read-t25 : tie.Need-array-read-t25
 array-read-t25 c = search needs
 
--- src/turn.rt:43:9
 array-read-t28 : tie.Need-array-read-t28
 array-read-t28 c = search needs
 
--- src/turn.rt:44:9
 array-read-t31 : tie.Need-array-read-t31
 array-read-t31 c = search needs
 
--- src/turn.rt:45:9
 array-read-t34 : tie.Need-array-read-t34
 array-read-t34 c = search needs
 
--- src/turn.rt:46:9
 array-read-t37 : tie.Need-array-read-t37
 array-read-t37 c = search needs
 
--- src/turn.rt:47:9
 array-read-t40 : tie.Need-array-read-t40
 array-read-t40 c = search needs
 
--- src/turn.rt:29:1
 returns : tie.Need-returns
 returns c = search turn-laid
 
