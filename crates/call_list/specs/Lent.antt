@@ -1,11 +1,13 @@
 -- The promise of a call on the first n of the words: "from here on the calls are lent the first N words". Assumes nothing.
 use Prim.Native.Nat.{ℕ}
 use mathlib.Core.Path.{_≡_}
+use mathlib.Core.Bool.{Bool, true}
 use mathlib.Core.List.{List}
 use lib.ListN.{take, drop}
 use Rattle.rules.specs.Choice.{Answer}
 use Rattle.rules.specs.Arguments.{Call}
 use Rattle.rules.specs.Opening.{Opening}
+use Rattle.layout.specs.Accepted.{Accepted}
 use Rattle.simulator.specs.Outcome.{Outcome}
 use Rattle.simulator.specs.Openings.{Opens}
 
@@ -18,3 +20,7 @@ pub record OnLent (n : ℕ) (w : List ℕ) (c : Call) (a : Answer) (left : List 
 pub record OpensLent (n : ℕ) (w : List ℕ) (o : Opening) (a : Answer) (left : List ℕ) : Type 0 where
   pub opening : Opens (take n w) o a (take n left)
   pub rest : drop n left ≡ drop n w
+
+-- what the program keeps of the first n of the words w: where the flag is set, they are an accepted state
+pub record Known (flag : Bool) (n : ℕ) (w : List ℕ) : Type 0 where
+  pub accepted : flag ≡ true → Accepted (take n w)
