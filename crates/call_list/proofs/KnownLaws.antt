@@ -1,13 +1,10 @@
 -- The first n of the words, known to be accepted or not: the test before a call, and what a call leaves. Assumes nothing.
 use Prim.Native.Nat.{ℕ, _-_, _≤_}
 use mathlib.Core.Path.{_≡_, refl, sym, ap, subst, _∙_}
-use mathlib.Core.Bool.{Bool, true, false, true≢false}
 use mathlib.Core.List.{List}
 use mathlib.Core.Logic.{inl, inr}
 use native.Mathlib.Omega.{arith}
-use lib.Dec.{eqb}
 use lib.ListN.{length, take, drop}
-use borrow.Author.Tests.{eqb-true}
 use borrow.Rule.Slice.PartMut.{putMid}
 use Rattle.rules.specs.Choice.{Answer, refused}
 use Rattle.rules.specs.Arguments.{Call}
@@ -22,7 +19,7 @@ use Rattle.call_list.proofs.LentLaws.{on-lent}
 -- ---- the test
 
 -- words that are known to be accepted need none
-pub known-lent : (flag : Bool) (n : ℕ) (w : List ℕ) → Known flag n w → flag ≡ true → Lent (take n w) 0
+pub known-lent : (flag n : ℕ) (w : List ℕ) → Known flag n w → flag ≡ 1 → Lent (take n w) 0
 known-lent flag n w k e = inr (inr (k .accepted e, refl))
 
 -- the part of the words that is lent are the first n
@@ -62,11 +59,11 @@ made-lent n w ys c a bad within l z o =
 
 -- ---- the flag
 
-pub lent-known : (n : ℕ) (w : List ℕ) (bad : ℕ) → Lent (take n w) bad → Known (eqb bad 0) n w
-lent-known n w bad l = record { accepted = λ e. lent-accepted (take n w) bad l (eqb-true bad 0 e) }
+pub lent-known : (n : ℕ) (w : List ℕ) (bad : ℕ) → Lent (take n w) bad → bad ≡ 0 → Known 1 n w
+lent-known n w bad l z = record { accepted = λ e. lent-accepted (take n w) bad l z }
 
-pub none-known : (n : ℕ) (w : List ℕ) → Known false n w
-none-known n w = record { accepted = λ e. absurd (true≢false (sym e)) }
+pub none-known : (n : ℕ) (w : List ℕ) → Known 0 n w
+none-known n w = record { accepted = λ e. absurd (omega (arith, e)) }
 
-pub same-known : (flag other : Bool) (n m : ℕ) (w : List ℕ) → Known flag n w → other ≡ flag → m ≡ n → Known other m w
+pub same-known : (flag other n m : ℕ) (w : List ℕ) → Known flag n w → other ≡ flag → m ≡ n → Known other m w
 same-known flag other n m w k e d = record { accepted = λ q. subst (λ (i : ℕ). Accepted (take i w)) (sym d) (k .accepted (sym e ∙ q)) }

@@ -1,7 +1,6 @@
 -- The promise of a call on the first n of the words: "from here on the calls are lent the first N words". Assumes nothing.
 use Prim.Native.Nat.{ℕ}
 use mathlib.Core.Path.{_≡_}
-use mathlib.Core.Bool.{Bool, true}
 use mathlib.Core.List.{List}
 use lib.ListN.{take, drop}
 use Rattle.rules.specs.Choice.{Answer}
@@ -21,6 +20,6 @@ pub record OpensLent (n : ℕ) (w : List ℕ) (o : Opening) (a : Answer) (left :
   pub opening : Opens (take n w) o a (take n left)
   pub rest : drop n left ≡ drop n w
 
--- what the program keeps of the first n of the words w: where the flag is set, they are an accepted state
-pub record Known (flag : Bool) (n : ℕ) (w : List ℕ) : Type 0 where
-  pub accepted : flag ≡ true → Accepted (take n w)
+-- what the program keeps of the first n of the words w: where the flag is 1, they are an accepted state
+pub record Known (flag n : ℕ) (w : List ℕ) : Type 0 where
+  pub accepted : flag ≡ 1 → Accepted (take n w)

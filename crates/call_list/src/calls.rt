@@ -88,11 +88,11 @@ fn opening_from(values: &[u64; 12], forms: &[u64; 12]) -> Opening {
 // ---- the calls, on the first `lent` words
 
 // Number 1 or 2 of the words that the calls are lent; 0 for none. Words that are known to be accepted are not tested again.
-fn tested(state: &[u64], hints: &mut [u64; 12], lent: usize, known: bool) -> u64
+fn tested(state: &[u64], hints: &mut [u64; 12], lent: usize, known: u64) -> u64
     requires { ⌜ lent ≤ length (now state) ⌝ ∗ ⌜ Known known lent (now state) ⌝ }
     ensures { λ n. ⌜ Lent (take lent (now (state .entry))) n ⌝ }
 {
-    if known {
+    if known == reading::KNOWN {
         return 0;
     }
     simulator::admit::lent(&state[0..lent], hints)
@@ -370,7 +370,7 @@ fn answered(
 // What a line leaves: the words that the calls are lent, whether these are known to be accepted, and the bytes of the output that wait.
 pub struct Left {
     pub lent: usize,
-    pub known: bool,
+    pub known: u64,
     pub used: usize,
 }
 
@@ -379,7 +379,7 @@ fn called(
     call: Call,
     values: &[u64; 12],
     lent: usize,
-    known: bool,
+    known: u64,
     hints: &mut [u64; 12],
     state: &mut [u64],
     out: &mut [u8],
@@ -391,9 +391,16 @@ fn called(
 {
     let bad = tested(state, hints, lent, known);
     let used = answered(call, values, lent, bad, hints, state, out, used);
+    if bad != 0 {
+        return Left {
+            lent,
+            known: reading::UNKNOWN,
+            used,
+        };
+    }
     Left {
         lent,
-        known: bad == 0,
+        known: reading::KNOWN,
         used,
     }
 }
@@ -434,7 +441,7 @@ fn changed(
     let used = answers::told(out, used, a);
     Left {
         lent,
-        known: false,
+        known: reading::UNKNOWN,
         used,
     }
 }
@@ -464,7 +471,7 @@ pub(crate) fn line_answered(
     letters: usize,
     arguments: usize,
     lent: usize,
-    known: bool,
+    known: u64,
     used: usize,
     name: &[u8; 24],
     forms: &[u64; 12],

@@ -1,7 +1,6 @@
 // What is known of a line so far, and what a byte adds to it.
 ghost use mathlib.Core.Path.{_≡_};
 ghost use Prim.Native.Nat.{_≤_};
-ghost use mathlib.Core.Bool.{false};
 ghost use lib.ListN.{length};
 ghost use Rattle.call_list.specs.Reading.{isDigit, isNumber};
 use crate::words;
@@ -39,13 +38,18 @@ pub(crate) const ARGUMENTS: usize = 12;
 // The words that the calls are lent at the start.
 const LENT: usize = 8192;
 
+// Whether the words that the calls are lent are known to be an accepted state, so that no call needs to test them: UNKNOWN says nothing.
+pub(crate) const UNKNOWN: u64 = 0;
+
+pub(crate) const KNOWN: u64 = 1;
+
 // What is known of the line so far, what the calls are lent, and how much of the output waits.
-// Whole words and a flag only: a struct of these stays in registers from byte to byte.
+// Whole words only: a struct of these stays in registers from byte to byte.
 pub struct Scan {
     pub line: u64,
     pub lent: usize,
-    // whether the words lent are known to be an accepted state
-    pub known: bool,
+    // KNOWN where the words lent are known to be an accepted state
+    pub known: u64,
     pub used: usize,
     pub place: u64,
     // letters of the first word, one more than are kept where it is longer
@@ -143,13 +147,13 @@ pub(crate) fn numeric(form: u64) -> bool
 impl Scan {
     // At the start of the input.
     pub fn new(state: &[u64]) -> Self
-        ensures { λ r. ⌜ (r .lent ≤ length (now (state .entry))) × ((r .known ≡ false) × (r .used ≡ 0)) ⌝ }
+        ensures { λ r. ⌜ (r .lent ≤ length (now (state .entry))) × ((r .known ≡ 0) × (r .used ≡ 0)) ⌝ }
     {
-        Scan::at_line(1, words::at_most(LENT, state), false, 0)
+        Scan::at_line(1, words::at_most(LENT, state), UNKNOWN, 0)
     }
 
     // At the start of a line.
-    pub(crate) fn at_line(line: u64, lent: usize, known: bool, used: usize) -> Self
+    pub(crate) fn at_line(line: u64, lent: usize, known: u64, used: usize) -> Self
         ensures { λ r. ⌜ (r .lent ≡ lent) × ((r .known ≡ known) × (r .used ≡ used)) ⌝ }
     {
         Self {
