@@ -105,8 +105,8 @@ fn open(state: &mut [u64], lent: usize, o: Opening) -> Answer
     simulator::open::open(&mut state[0..lent], o)
 }
 
-// The calls below are made on words that `tested` refuses with the number `bad`, or accepts where that is 0. What it says of the words it says of those
-// that they leave.
+// The calls below are made on words that `tested` refuses with the number `bad`, or accepts where that is 0. The same number holds of the words that they
+// leave.
 
 fn push(state: &mut [u64], hints: &mut [u64; 12], lent: usize, bad: u64, e: SimEvent) -> Answer
     requires { ⌜ lent ≤ length (now state) ⌝ ∗ ⌜ Lent (take lent (now state)) bad ⌝ }
@@ -439,11 +439,8 @@ fn changed(
     let lent = words::lent_after(call, values, state, lent);
     let a = rewritten(call, values, forms, lent, state);
     let used = answers::told(out, used, a);
-    Left {
-        lent,
-        known: reading::UNKNOWN,
-        used,
-    }
+    let known = reading::UNKNOWN;
+    Left { lent, known, used }
 }
 
 // `show`, `words` and a line that is no call, which leave every word.

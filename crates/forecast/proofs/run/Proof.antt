@@ -1,11 +1,10 @@
-use mathlib.Core.Path.{refl}
-use Rattle.call_list.proofs.KnownLaws.{none-known, same-known}
 -- `forecast::run` meets its contract. Assumes nothing.
 use Prim.Native.Nat.{_≤_}
-use mathlib.Core.Path.{_≡_}
+use mathlib.Core.Path.{_≡_, refl}
 use lib.ListN.{length}
 use borrow.Author.Needs.{needs}
 use Rattle.call_list.specs.Lent.{Known}
+use Rattle.call_list.proofs.KnownLaws.{none-known, same-known}
 use Rattle.forecast.proofs.run.Statement.{statement}
 use Rattle.forecast.proofs.run.Tie as tie
 

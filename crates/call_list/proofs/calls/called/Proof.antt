@@ -1,6 +1,6 @@
-use Rattle.call_list.proofs.KnownLaws.{lent-known, none-known}
 -- `call_list::calls::called` meets its contract. Assumes nothing.
 use borrow.Author.Needs.{needs}
+use Rattle.call_list.proofs.KnownLaws.{lent-known, none-known}
 use Rattle.call_list.proofs.calls.called.Statement.{statement}
 use Rattle.call_list.proofs.calls.called.Tie as tie
 

@@ -1,6 +1,6 @@
-use Rattle.call_list.proofs.KnownLaws.{none-known}
 -- `call_list::calls::changed` meets its contract. Assumes nothing.
 use borrow.Author.Needs.{needs}
+use Rattle.call_list.proofs.KnownLaws.{none-known}
 use Rattle.call_list.proofs.calls.changed.Statement.{statement}
 use Rattle.call_list.proofs.calls.changed.Tie as tie
 

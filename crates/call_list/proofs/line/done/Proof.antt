@@ -1,7 +1,7 @@
-use mathlib.Core.Path.{_∙_}
-use Rattle.call_list.proofs.KnownLaws.{same-known}
 -- `call_list::line::done` meets its contract. Assumes nothing.
+use mathlib.Core.Path.{_∙_}
 use borrow.Author.Needs.{needs}
+use Rattle.call_list.proofs.KnownLaws.{same-known}
 use Rattle.call_list.proofs.line.done.Statement.{statement}
 use Rattle.call_list.proofs.line.done.Tie as tie
 

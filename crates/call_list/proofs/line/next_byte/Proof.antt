@@ -1,6 +1,6 @@
-use Rattle.call_list.proofs.KnownLaws.{same-known}
 -- `call_list::line::next_byte` meets its contract. Assumes nothing.
 use borrow.Author.Needs.{needs}
+use Rattle.call_list.proofs.KnownLaws.{same-known}
 use Rattle.call_list.proofs.line.next_byte.Statement.{statement}
 use Rattle.call_list.proofs.line.next_byte.Tie as tie
 
