@@ -541,6 +541,59 @@ def sums():
     say("show", state(0, 5, "1 - - 0 0 0 0 1 0 0", [f"event internal 3 {L} 1 s 0 0 0 0"] * 2 + [f"stamp c {L}"] * 2))
 
 
+def known():
+    """The program keeps what a call has found of the words; nothing of that may outlive a change of them."""
+    settings = "0 - - 0 0 0 0 0 1 1"
+    held = ["timer c 0 9", "event base 1 5 0 c 0 0 0 0", "event base 1 6 0 c 0 0 0 0"]
+    note("==== By hand from document 01: words that change between two calls, where the call before found them accepted")
+    note("A word that damages them, a call of every kind, and the word as it was")
+    opened(8, settings)
+    ok("push 1 5 0 c 0 0 0 0", "word 14 2")
+    refused(2, "push 1 6 0 c 0 0 0 0")
+    ok("word 14 0", "push 1 6 0 c 0 0 0 0")
+    for call in EVERY:
+        ok("set_timer c 0 9", "word 14 2")
+        refused(2, call)
+        ok("word 14 0")
+    ok("set_timer c 0 9", "word 25 7")
+    refused(2, "set_timer c 0 9", "set_timer c 0 9")
+    ok("word 25 6", "set_timer c 0 9")
+    note("A word behind those lent, and words that mean nothing: the calls go on")
+    for word in ("word 288 7", "word 8191 7", "word 18 7", "word 255 7"):
+        ok(word, "set_timer c 0 9")
+    note("Lines that change no word: the calls go on")
+    say("show", state(0, 6, settings, held))
+    bad("set_timer c 0")
+    bad("word 8192 0")
+    bad("lend 8193")
+    refused(4, "open 0 0 - 0 0 0 0 0 1 1")
+    ok("set_timer c 0 9")
+    note("Fewer words lent and more, a call of every kind, and as many as before")
+    for n, number in ((284, 2), (260, 2), (292, 2), (8192, 2), (287, 1), (256, 1), (0, 1)):
+        for call in EVERY:
+            ok("set_timer c 0 9", f"lend {n}")
+            refused(number, call)
+            ok("lend 288")
+    ok("set_timer c 0 9", "lend 288", "set_timer c 0 9")
+    say("show", state(0, 6, settings, held))
+    note("The ended mark written, and taken away; the mark that a 10 sets; opening over it; opening a part, then the whole as it was left")
+    ok("set_timer c 0 9", "word 16 1")
+    refused(3, *EVERY)
+    ok("word 16 0", "set_timer c 0 9")
+    ok(f"push 1 {L} 0 s 0 0 0 0", "word 11 1")
+    refused(10, "pick_next 0")
+    refused(3, *EVERY)
+    ok("word 16 2")
+    refused(2, *EVERY)
+    ok("open " + settings)
+    say("pick_next 0", "nothing rounds 1")
+    ok("lend 284", "open " + settings, "push 1 5 0 c 0 0 0 0", "lend 288")
+    refused(2, *EVERY)
+    ok("open " + settings, "push 1 5 0 c 0 0 0 0")
+    say("pick_next 5", "event 1 5 0 c 0 0 0 0 rounds 1")
+    say("show", state(1, 8, settings))
+
+
 # ---- printed by the Rust
 
 def rust(lists, oracle, name, title):
@@ -573,6 +626,7 @@ def main():
     pairs()
     acceptance()
     sums()
+    known()
     rust(lists, oracle, "edges.txt", "the edges of the rules, behaviour that looks odd, the misreadings")
     rust(lists, oracle, "sample.txt", "a sample of the random lists of every kind")
     note("By hand: a last line without a newline, with a CR, is a line too")

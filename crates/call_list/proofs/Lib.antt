@@ -1,3 +1,4 @@
+pub mod KnownLaws
 pub mod LentLaws
 pub mod ReadingLaws
 pub mod WithinLaws

@@ -6,6 +6,7 @@ use lib.ListN.{take, drop}
 use Rattle.rules.specs.Choice.{Answer}
 use Rattle.rules.specs.Arguments.{Call}
 use Rattle.rules.specs.Opening.{Opening}
+use Rattle.layout.specs.Accepted.{Accepted}
 use Rattle.simulator.specs.Outcome.{Outcome}
 use Rattle.simulator.specs.Openings.{Opens}
 
@@ -18,3 +19,7 @@ pub record OnLent (n : ℕ) (w : List ℕ) (c : Call) (a : Answer) (left : List 
 pub record OpensLent (n : ℕ) (w : List ℕ) (o : Opening) (a : Answer) (left : List ℕ) : Type 0 where
   pub opening : Opens (take n w) o a (take n left)
   pub rest : drop n left ≡ drop n w
+
+-- what the program keeps of the first n of the words w: where the flag is 1, they are an accepted state
+pub record Known (flag n : ℕ) (w : List ℕ) : Type 0 where
+  pub accepted : flag ≡ 1 → Accepted (take n w)

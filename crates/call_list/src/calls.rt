@@ -1,13 +1,13 @@
 // The calls of the lines, and their answers.
 ghost use mathlib.Core.Path.{_≡_};
 ghost use Prim.Native.Nat.{_≤_};
-ghost use lib.ListN.{length};
+ghost use lib.ListN.{length, take};
 ghost use Rattle.rules.specs.Arguments.{push, set-action, clear-action, set-timer, clear-timer, pick-next, sim-network-stack};
 ghost use Rattle.event.specs.HandedIn.{eventIn, actionIn};
 ghost use Rattle.event.specs.Answers.{answerOf, choiceOf, stepOf};
-ghost use Rattle.simulator.specs.Numbers.{slotIn};
+ghost use Rattle.simulator.specs.Numbers.{slotIn, Lent};
 ghost use Rattle.simulator.specs.Openings.{openingOf};
-ghost use Rattle.call_list.specs.Lent.{OnLent, OpensLent};
+ghost use Rattle.call_list.specs.Lent.{OnLent, OpensLent, Known};
 use crate::reading;
 use crate::words;
 use crate::words::Call;
@@ -19,6 +19,7 @@ use event::ScheduledAction;
 use event::SimEvent;
 use event::answer::Answer;
 use event::answer::Choice;
+use event::answer::Refusal;
 use event::answer::Step;
 use moment::Length;
 use moment::Moment;
@@ -86,6 +87,17 @@ fn opening_from(values: &[u64; 12], forms: &[u64; 12]) -> Opening {
 
 // ---- the calls, on the first `lent` words
 
+// Number 1 or 2 of the words that the calls are lent; 0 for none. Words that are known to be accepted are not tested again.
+fn tested(state: &[u64], hints: &mut [u64; 12], lent: usize, known: u64) -> u64
+    requires { ⌜ lent ≤ length (now state) ⌝ ∗ ⌜ Known known lent (now state) ⌝ }
+    ensures { λ n. ⌜ Lent (take lent (now (state .entry))) n ⌝ }
+{
+    if known == reading::KNOWN {
+        return 0;
+    }
+    simulator::admit::lent(&state[0..lent], hints)
+}
+
 fn open(state: &mut [u64], lent: usize, o: Opening) -> Answer
     requires { ⌜ lent ≤ length (now state) ⌝ }
     ensures { λ a. ⌜ OpensLent lent (now (state .entry)) (openingOf o) (answerOf a) (now (state .exit)) ⌝ }
@@ -93,59 +105,132 @@ fn open(state: &mut [u64], lent: usize, o: Opening) -> Answer
     simulator::open::open(&mut state[0..lent], o)
 }
 
-fn push(state: &mut [u64], lent: usize, e: SimEvent) -> Answer
-    requires { ⌜ lent ≤ length (now state) ⌝ }
+// The calls below are made on words that `tested` refuses with the number `bad`, or accepts where that is 0. The same number holds of the words that they
+// leave.
+
+fn push(state: &mut [u64], hints: &mut [u64; 12], lent: usize, bad: u64, e: SimEvent) -> Answer
+    requires { ⌜ lent ≤ length (now state) ⌝ ∗ ⌜ Lent (take lent (now state)) bad ⌝ }
     ensures { λ a. ⌜ OnLent lent (now (state .entry)) (push (eventIn e)) (answerOf a) (now (state .exit)) ⌝ }
+    ensures { λ _. ⌜ Lent (take lent (now (state .exit))) bad ⌝ }
 {
-    simulator::push::push_sim(&mut state[0..lent], e)
+    if bad != 0 {
+        return Answer::Refused(Refusal {
+            number: bad,
+            rounds: 0,
+        });
+    }
+    simulator::push::push_sim_on(&mut state[0..lent], hints, e)
 }
 
 fn set_action(
     state: &mut [u64],
     lent: usize,
+    bad: u64,
     client: bool,
     machine: u64,
     a: ScheduledAction,
 ) -> Answer
-    requires { ⌜ lent ≤ length (now state) ⌝ }
+    requires { ⌜ lent ≤ length (now state) ⌝ ∗ ⌜ Lent (take lent (now state)) bad ⌝ }
     ensures { λ r. ⌜ OnLent lent (now (state .entry)) (set-action (slotIn client machine) (actionIn a)) (answerOf r) (now (state .exit)) ⌝ }
+    ensures { λ _. ⌜ Lent (take lent (now (state .exit))) bad ⌝ }
 {
-    simulator::slots::set_action(&mut state[0..lent], client, machine, a)
+    if bad != 0 {
+        return Answer::Refused(Refusal {
+            number: bad,
+            rounds: 0,
+        });
+    }
+    simulator::slots::set_action_on(&mut state[0..lent], client, machine, a)
 }
 
-fn clear_action(state: &mut [u64], lent: usize, client: bool, machine: u64) -> Answer
-    requires { ⌜ lent ≤ length (now state) ⌝ }
+fn clear_action(state: &mut [u64], lent: usize, bad: u64, client: bool, machine: u64) -> Answer
+    requires { ⌜ lent ≤ length (now state) ⌝ ∗ ⌜ Lent (take lent (now state)) bad ⌝ }
     ensures { λ a. ⌜ OnLent lent (now (state .entry)) (clear-action (slotIn client machine)) (answerOf a) (now (state .exit)) ⌝ }
+    ensures { λ _. ⌜ Lent (take lent (now (state .exit))) bad ⌝ }
 {
-    simulator::slots::clear_action(&mut state[0..lent], client, machine)
+    if bad != 0 {
+        return Answer::Refused(Refusal {
+            number: bad,
+            rounds: 0,
+        });
+    }
+    simulator::slots::clear_action_on(&mut state[0..lent], client, machine)
 }
 
-fn set_timer(state: &mut [u64], lent: usize, client: bool, machine: u64, moment: Moment) -> Answer
-    requires { ⌜ lent ≤ length (now state) ⌝ }
+fn set_timer(
+    state: &mut [u64],
+    lent: usize,
+    bad: u64,
+    client: bool,
+    machine: u64,
+    moment: Moment,
+) -> Answer
+    requires { ⌜ lent ≤ length (now state) ⌝ ∗ ⌜ Lent (take lent (now state)) bad ⌝ }
     ensures { λ a. ⌜ OnLent lent (now (state .entry)) (set-timer (slotIn client machine) (moment .0)) (answerOf a) (now (state .exit)) ⌝ }
+    ensures { λ _. ⌜ Lent (take lent (now (state .exit))) bad ⌝ }
 {
-    simulator::slots::set_timer(&mut state[0..lent], client, machine, moment)
+    if bad != 0 {
+        return Answer::Refused(Refusal {
+            number: bad,
+            rounds: 0,
+        });
+    }
+    simulator::slots::set_timer_on(&mut state[0..lent], client, machine, moment)
 }
 
-fn clear_timer(state: &mut [u64], lent: usize, client: bool, machine: u64) -> Answer
-    requires { ⌜ lent ≤ length (now state) ⌝ }
+fn clear_timer(state: &mut [u64], lent: usize, bad: u64, client: bool, machine: u64) -> Answer
+    requires { ⌜ lent ≤ length (now state) ⌝ ∗ ⌜ Lent (take lent (now state)) bad ⌝ }
     ensures { λ a. ⌜ OnLent lent (now (state .entry)) (clear-timer (slotIn client machine)) (answerOf a) (now (state .exit)) ⌝ }
+    ensures { λ _. ⌜ Lent (take lent (now (state .exit))) bad ⌝ }
 {
-    simulator::slots::clear_timer(&mut state[0..lent], client, machine)
+    if bad != 0 {
+        return Answer::Refused(Refusal {
+            number: bad,
+            rounds: 0,
+        });
+    }
+    simulator::slots::clear_timer_on(&mut state[0..lent], client, machine)
 }
 
-fn pick_next(state: &mut [u64], lent: usize, time: Moment) -> Choice
-    requires { ⌜ lent ≤ length (now state) ⌝ }
+fn pick_next(
+    state: &mut [u64],
+    hints: &mut [u64; 12],
+    lent: usize,
+    bad: u64,
+    time: Moment,
+) -> Choice
+    requires { ⌜ lent ≤ length (now state) ⌝ ∗ ⌜ Lent (take lent (now state)) bad ⌝ }
     ensures { λ a. ⌜ OnLent lent (now (state .entry)) (pick-next (time .0)) (choiceOf a) (now (state .exit)) ⌝ }
+    ensures { λ _. ⌜ Lent (take lent (now (state .exit))) bad ⌝ }
 {
-    simulator::choice::pick_next(&mut state[0..lent], time)
+    if bad != 0 {
+        return Choice::Refused(Refusal {
+            number: bad,
+            rounds: 0,
+        });
+    }
+    simulator::choice::pick_next_on(&mut state[0..lent], hints, time)
 }
 
-fn sim_network_stack(state: &mut [u64], lent: usize, e: SimEvent, time: Moment) -> Step
-    requires { ⌜ lent ≤ length (now state) ⌝ }
+fn sim_network_stack(
+    state: &mut [u64],
+    hints: &mut [u64; 12],
+    lent: usize,
+    bad: u64,
+    e: SimEvent,
+    time: Moment,
+) -> Step
+    requires { ⌜ lent ≤ length (now state) ⌝ ∗ ⌜ Lent (take lent (now state)) bad ⌝ }
     ensures { λ a. ⌜ OnLent lent (now (state .entry)) (sim-network-stack (time .0) (eventIn e)) (stepOf a) (now (state .exit)) ⌝ }
+    ensures { λ _. ⌜ Lent (take lent (now (state .exit))) bad ⌝ }
 {
-    simulator::step::sim_network_stack(&mut state[0..lent], e, time)
+    if bad != 0 {
+        return Step::Refused(Refusal {
+            number: bad,
+            rounds: 0,
+        });
+    }
+    simulator::step::sim_network_stack_on(&mut state[0..lent], hints, e, time)
 }
 
 // Word i becomes v, where there is one.
@@ -161,18 +246,42 @@ fn set_word(state: &mut [u64], i: u64, v: u64) -> Answer {
 
 // ---- a line's answer
 
-// Opening, pushing, setting and clearing; `word` and `lend`, whose work is done elsewhere.
-fn made(call: Call, values: &[u64; 12], forms: &[u64; 12], lent: usize, state: &mut [u64]) -> Answer
-    requires { ⌜ lent ≤ length (now state) ⌝ }
+// Pushing, setting and clearing.
+fn made(
+    call: Call,
+    values: &[u64; 12],
+    lent: usize,
+    bad: u64,
+    hints: &mut [u64; 12],
+    state: &mut [u64],
+) -> Answer
+    requires { ⌜ lent ≤ length (now state) ⌝ ∗ ⌜ Lent (take lent (now state)) bad ⌝ }
+    ensures { λ _. ⌜ Lent (take lent (now (state .exit))) bad ⌝ }
 {
     match call {
-        Call::Word => set_word(state, values[0], values[1]),
-        Call::Open => open(state, lent, opening_from(values, forms)),
-        Call::Push => push(state, lent, event_from(values, 0)),
-        Call::SetAction => set_action(state, lent, values[0] == 1, values[1], action_from(values)),
-        Call::ClearAction => clear_action(state, lent, values[0] == 1, values[1]),
-        Call::SetTimer => set_timer(state, lent, values[0] == 1, values[1], Moment(values[2])),
-        Call::ClearTimer => clear_timer(state, lent, values[0] == 1, values[1]),
+        Call::Push => push(state, hints, lent, bad, event_from(values, 0)),
+        Call::SetAction => {
+            set_action(
+                state,
+                lent,
+                bad,
+                values[0] == 1,
+                values[1],
+                action_from(values),
+            )
+        },
+        Call::ClearAction => clear_action(state, lent, bad, values[0] == 1, values[1]),
+        Call::SetTimer => {
+            set_timer(
+                state,
+                lent,
+                bad,
+                values[0] == 1,
+                values[1],
+                Moment(values[2]),
+            )
+        },
+        Call::ClearTimer => clear_timer(state, lent, bad, values[0] == 1, values[1]),
         _ => Answer::Done,
     }
 }
@@ -180,32 +289,141 @@ fn made(call: Call, values: &[u64; 12], forms: &[u64; 12], lent: usize, state: &
 fn answered_choice(
     values: &[u64; 12],
     lent: usize,
+    bad: u64,
+    hints: &mut [u64; 12],
     state: &mut [u64],
     out: &mut [u8],
     used: usize,
 ) -> usize
-    requires { ⌜ (lent ≤ length (now state)) × (used ≤ length (now out)) ⌝ }
+    requires { ⌜ (lent ≤ length (now state)) × (used ≤ length (now out)) ⌝ ∗ ⌜ Lent (take lent (now state)) bad ⌝ }
     ensures { λ u. ⌜ u ≤ length (now (out .exit)) ⌝ }
+    ensures { λ _. ⌜ Lent (take lent (now (state .exit))) bad ⌝ }
 {
-    let a = pick_next(state, lent, Moment(values[0]));
+    let a = pick_next(state, hints, lent, bad, Moment(values[0]));
     answers::told_choice(out, used, a)
 }
 
 fn answered_step(
     values: &[u64; 12],
     lent: usize,
+    bad: u64,
+    hints: &mut [u64; 12],
     state: &mut [u64],
     out: &mut [u8],
     used: usize,
 ) -> usize
-    requires { ⌜ (lent ≤ length (now state)) × (used ≤ length (now out)) ⌝ }
+    requires { ⌜ (lent ≤ length (now state)) × (used ≤ length (now out)) ⌝ ∗ ⌜ Lent (take lent (now state)) bad ⌝ }
     ensures { λ u. ⌜ u ≤ length (now (out .exit)) ⌝ }
+    ensures { λ _. ⌜ Lent (take lent (now (state .exit))) bad ⌝ }
 {
-    let a = sim_network_stack(state, lent, event_from(values, 1), Moment(values[0]));
+    let a = sim_network_stack(
+        state,
+        hints,
+        lent,
+        bad,
+        event_from(values, 1),
+        Moment(values[0]),
+    );
     answers::told_step(out, used, a)
 }
 
-fn answered_other(
+fn answered_made(
+    call: Call,
+    values: &[u64; 12],
+    lent: usize,
+    bad: u64,
+    hints: &mut [u64; 12],
+    state: &mut [u64],
+    out: &mut [u8],
+    used: usize,
+) -> usize
+    requires { ⌜ (lent ≤ length (now state)) × (used ≤ length (now out)) ⌝ ∗ ⌜ Lent (take lent (now state)) bad ⌝ }
+    ensures { λ u. ⌜ u ≤ length (now (out .exit)) ⌝ }
+    ensures { λ _. ⌜ Lent (take lent (now (state .exit))) bad ⌝ }
+{
+    let a = made(call, values, lent, bad, hints, state);
+    answers::told(out, used, a)
+}
+
+// A call on a state is made and its answer put.
+fn answered(
+    call: Call,
+    values: &[u64; 12],
+    lent: usize,
+    bad: u64,
+    hints: &mut [u64; 12],
+    state: &mut [u64],
+    out: &mut [u8],
+    used: usize,
+) -> usize
+    requires { ⌜ (lent ≤ length (now state)) × (used ≤ length (now out)) ⌝ ∗ ⌜ Lent (take lent (now state)) bad ⌝ }
+    ensures { λ u. ⌜ u ≤ length (now (out .exit)) ⌝ }
+    ensures { λ _. ⌜ Lent (take lent (now (state .exit))) bad ⌝ }
+{
+    match call {
+        Call::PickNext => answered_choice(values, lent, bad, hints, state, out, used),
+        Call::SimNetworkStack => answered_step(values, lent, bad, hints, state, out, used),
+        _ => answered_made(call, values, lent, bad, hints, state, out, used),
+    }
+}
+
+// What a line leaves: the words that the calls are lent, whether these are known to be accepted, and the bytes of the output that wait.
+pub struct Left {
+    pub lent: usize,
+    pub known: u64,
+    pub used: usize,
+}
+
+// A call on a state: its words are tested unless they are known to be accepted, and known from here on where they are.
+fn called(
+    call: Call,
+    values: &[u64; 12],
+    lent: usize,
+    known: u64,
+    hints: &mut [u64; 12],
+    state: &mut [u64],
+    out: &mut [u8],
+    used: usize,
+) -> Left
+    requires { ⌜ (lent ≤ length (now state)) × (used ≤ length (now out)) ⌝ ∗ ⌜ Known known lent (now state) ⌝ }
+    ensures { λ r. ⌜ (r .lent ≤ length (now (state .exit))) × (r .used ≤ length (now (out .exit))) ⌝ }
+    ensures { λ r. ⌜ Known (r .known) (r .lent) (now (state .exit)) ⌝ }
+{
+    let bad = tested(state, hints, lent, known);
+    let used = answered(call, values, lent, bad, hints, state, out, used);
+    if bad != 0 {
+        return Left {
+            lent,
+            known: reading::UNKNOWN,
+            used,
+        };
+    }
+    Left {
+        lent,
+        known: reading::KNOWN,
+        used,
+    }
+}
+
+// Opening and `word`; the work of `lend` is done elsewhere.
+fn rewritten(
+    call: Call,
+    values: &[u64; 12],
+    forms: &[u64; 12],
+    lent: usize,
+    state: &mut [u64],
+) -> Answer
+    requires { ⌜ lent ≤ length (now state) ⌝ }
+{
+    match call {
+        Call::Word => set_word(state, values[0], values[1]),
+        Call::Open => open(state, lent, opening_from(values, forms)),
+        _ => Answer::Done,
+    }
+}
+
+// Opening, `word` and `lend`: the words lent are others afterwards, and not known to be accepted.
+fn changed(
     call: Call,
     values: &[u64; 12],
     forms: &[u64; 12],
@@ -213,22 +431,24 @@ fn answered_other(
     state: &mut [u64],
     out: &mut [u8],
     used: usize,
-) -> usize
+) -> Left
     requires { ⌜ (lent ≤ length (now state)) × (used ≤ length (now out)) ⌝ }
-    ensures { λ u. ⌜ u ≤ length (now (out .exit)) ⌝ }
+    ensures { λ r. ⌜ (r .lent ≤ length (now (state .exit))) × (r .used ≤ length (now (out .exit))) ⌝ }
+    ensures { λ r. ⌜ Known (r .known) (r .lent) (now (state .exit)) ⌝ }
 {
-    let a = made(call, values, forms, lent, state);
-    answers::told(out, used, a)
+    let lent = words::lent_after(call, values, state, lent);
+    let a = rewritten(call, values, forms, lent, state);
+    let used = answers::told(out, used, a);
+    let known = reading::UNKNOWN;
+    Left { lent, known, used }
 }
 
-// The call is made and its answer put.
-fn answered(
+// `show`, `words` and a line that is no call, which leave every word.
+fn listed(
     call: Call,
-    values: &[u64; 12],
-    forms: &[u64; 12],
     line_number: u64,
     lent: usize,
-    state: &mut [u64],
+    state: &[u64],
     out: &mut [u8],
     used: usize,
 ) -> usize
@@ -236,19 +456,10 @@ fn answered(
     ensures { λ u. ⌜ u ≤ length (now (out .exit)) ⌝ }
 {
     match call {
-        Call::Bad => answers::bad_line(out, used, line_number),
-        Call::PickNext => answered_choice(values, lent, state, out, used),
-        Call::SimNetworkStack => answered_step(values, lent, state, out, used),
         Call::Show => lists::show(&state[0..lent], out, used),
         Call::Words => lists::words(&state[0..lent], out, used),
-        _ => answered_other(call, values, forms, lent, state, out, used),
+        _ => answers::bad_line(out, used, line_number),
     }
-}
-
-// What a line leaves: the words that the calls are lent, and the bytes of the output that wait.
-pub struct Left {
-    pub lent: usize,
-    pub used: usize,
 }
 
 // The line whose first word has so many letters and which has so many arguments.
@@ -257,18 +468,26 @@ pub(crate) fn line_answered(
     letters: usize,
     arguments: usize,
     lent: usize,
+    known: u64,
     used: usize,
     name: &[u8; 24],
     forms: &[u64; 12],
     values: &[u64; 12],
+    hints: &mut [u64; 12],
     state: &mut [u64],
     out: &mut [u8],
 ) -> Left
-    requires { ⌜ (lent ≤ length (now state)) × (used ≤ length (now out)) ⌝ }
+    requires { ⌜ (lent ≤ length (now state)) × (used ≤ length (now out)) ⌝ ∗ ⌜ Known known lent (now state) ⌝ }
     ensures { λ r. ⌜ (r .lent ≤ length (now (state .exit))) × (r .used ≤ length (now (out .exit))) ⌝ }
+    ensures { λ r. ⌜ Known (r .known) (r .lent) (now (state .exit)) ⌝ }
 {
     let call = words::understood(name, letters, forms, arguments, values);
-    let lent = words::lent_after(call, values, state, lent);
-    let used = answered(call, values, forms, line_number, lent, state, out, used);
-    Left { lent, used }
+    if words::leaves_words(call) {
+        let used = listed(call, line_number, lent, state, out, used);
+        return Left { lent, known, used };
+    }
+    if words::changes_words(call) {
+        return changed(call, values, forms, lent, state, out, used);
+    }
+    called(call, values, lent, known, hints, state, out, used)
 }

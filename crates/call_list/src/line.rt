@@ -2,13 +2,14 @@
 ghost use mathlib.Core.Path.{_≡_};
 ghost use Prim.Native.Nat.{_≤_};
 ghost use lib.ListN.{length};
+ghost use Rattle.call_list.specs.Lent.{Known};
 use crate::calls;
 use crate::reading;
 use crate::reading::Scan;
 
 // One byte more of the first word. A line whose first word begins with `#` is passed over.
 fn with_letter(mut s: Scan, b: u8, name: &mut [u8; 24]) -> Scan
-    ensures { λ r. ⌜ (r .lent ≡ s .lent) × (r .used ≡ s .used) ⌝ }
+    ensures { λ r. ⌜ (r .lent ≡ s .lent) × ((r .known ≡ s .known) × (r .used ≡ s .used)) ⌝ }
 {
     let at = s.letters;
     if at >= reading::LETTERS {
@@ -33,7 +34,7 @@ fn place_after(at: usize, b: u8) -> u64 {
 
 // An argument ends here.
 fn with_argument(mut s: Scan, forms: &mut [u64; 12], values: &mut [u64; 12]) -> Scan
-    ensures { λ r. ⌜ (r .lent ≡ s .lent) × (r .used ≡ s .used) ⌝ }
+    ensures { λ r. ⌜ (r .lent ≡ s .lent) × ((r .known ≡ s .known) × (r .used ≡ s .used)) ⌝ }
 {
     let at = s.arguments;
     if at >= reading::ARGUMENTS {
@@ -58,7 +59,7 @@ fn place_parted(letters: usize) -> u64 {
 
 // A space or the end of the line: the word under way ends, if there is one.
 fn parted(mut s: Scan, forms: &mut [u64; 12], values: &mut [u64; 12]) -> Scan
-    ensures { λ r. ⌜ (r .lent ≡ s .lent) × (r .used ≡ s .used) ⌝ }
+    ensures { λ r. ⌜ (r .lent ≡ s .lent) × ((r .known ≡ s .known) × (r .used ≡ s .used)) ⌝ }
 {
     if s.place != reading::ARGUMENT {
         s.place = place_parted(s.letters);
@@ -79,7 +80,7 @@ fn is_space(b: u8) -> bool {
 
 // A byte that is no CR and ends no line.
 fn taken(s: Scan, b: u8, name: &mut [u8; 24], forms: &mut [u64; 12], values: &mut [u64; 12]) -> Scan
-    ensures { λ r. ⌜ (r .lent ≡ s .lent) × (r .used ≡ s .used) ⌝ }
+    ensures { λ r. ⌜ (r .lent ≡ s .lent) × ((r .known ≡ s .known) × (r .used ≡ s .used)) ⌝ }
 {
     if is_space(b) {
         return parted(s, forms, values);
@@ -92,7 +93,7 @@ fn taken(s: Scan, b: u8, name: &mut [u8; 24], forms: &mut [u64; 12], values: &mu
 
 // A byte that ends no line, unless it is a digit in an argument.
 fn fed(s: Scan, b: u8, name: &mut [u8; 24], forms: &mut [u64; 12], values: &mut [u64; 12]) -> Scan
-    ensures { λ r. ⌜ (r .lent ≡ s .lent) × (r .used ≡ s .used) ⌝ }
+    ensures { λ r. ⌜ (r .lent ≡ s .lent) × ((r .known ≡ s .known) × (r .used ≡ s .used)) ⌝ }
 {
     if s.place == reading::COMMENT {
         return s;
@@ -127,12 +128,14 @@ fn done(
     name: &mut [u8; 24],
     forms: &mut [u64; 12],
     values: &mut [u64; 12],
+    hints: &mut [u64; 12],
 ) -> Scan
-    requires { ⌜ (s .lent ≤ length (now state)) × (s .used ≤ length (now out)) ⌝ }
+    requires { ⌜ (s .lent ≤ length (now state)) × (s .used ≤ length (now out)) ⌝ ∗ ⌜ Known (s .known) (s .lent) (now state) ⌝ }
     ensures { λ r. ⌜ (r .lent ≤ length (now (state .exit))) × (r .used ≤ length (now (out .exit))) ⌝ }
+    ensures { λ r. ⌜ Known (r .known) (r .lent) (now (state .exit)) ⌝ }
 {
     if passed_over(s) {
-        return Scan::at_line(next_line(s.line), s.lent, s.used);
+        return Scan::at_line(next_line(s.line), s.lent, s.known, s.used);
     }
     let t = parted(s.without_cr(), forms, values);
     let r = calls::line_answered(
@@ -140,14 +143,16 @@ fn done(
         t.letters,
         t.arguments,
         t.lent,
+        t.known,
         t.used,
         name,
         forms,
         values,
+        hints,
         state,
         out,
     );
-    Scan::at_line(next_line(t.line), r.lent, r.used)
+    Scan::at_line(next_line(t.line), r.lent, r.known, r.used)
 }
 
 // One byte of the input.
@@ -159,9 +164,11 @@ fn next_byte(
     name: &mut [u8; 24],
     forms: &mut [u64; 12],
     values: &mut [u64; 12],
+    hints: &mut [u64; 12],
 ) -> Scan
-    requires { ⌜ (s .lent ≤ length (now state)) × (s .used ≤ length (now out)) ⌝ }
+    requires { ⌜ (s .lent ≤ length (now state)) × (s .used ≤ length (now out)) ⌝ ∗ ⌜ Known (s .known) (s .lent) (now state) ⌝ }
     ensures { λ r. ⌜ (r .lent ≤ length (now (state .exit))) × (r .used ≤ length (now (out .exit))) ⌝ }
+    ensures { λ r. ⌜ Known (r .known) (r .lent) (now (state .exit)) ⌝ }
 {
     if s.place == reading::ARGUMENT {
         if reading::is_digit(b) {
@@ -169,7 +176,7 @@ fn next_byte(
         }
     }
     if b == b'\n' {
-        return done(s, state, out, name, forms, values);
+        return done(s, state, out, name, forms, values, hints);
     }
     fed(s, b, name, forms, values)
 }
@@ -183,14 +190,16 @@ pub fn scan_piece(
     name: &mut [u8; 24],
     forms: &mut [u64; 12],
     values: &mut [u64; 12],
+    hints: &mut [u64; 12],
 ) -> Scan
-    requires { ⌜ (start .lent ≤ length (now state)) × (start .used ≤ length (now out)) ⌝ }
+    requires { ⌜ (start .lent ≤ length (now state)) × (start .used ≤ length (now out)) ⌝ ∗ ⌜ Known (start .known) (start .lent) (now state) ⌝ }
     ensures { λ r. ⌜ (r .lent ≤ length (now (state .exit))) × (r .used ≤ length (now (out .exit))) ⌝ }
+    ensures { λ r. ⌜ Known (r .known) (r .lent) (now (state .exit)) ⌝ }
 {
     let mut s = start;
     let mut i = 0;
     while i < input.len() {
-        s = next_byte(s, input[i], state, out, name, forms, values);
+        s = next_byte(s, input[i], state, out, name, forms, values, hints);
         i += 1;
     }
     s

@@ -38,11 +38,18 @@ pub(crate) const ARGUMENTS: usize = 12;
 // The words that the calls are lent at the start.
 const LENT: usize = 8192;
 
+// Whether the words that the calls are lent are known to be an accepted state, so that no call needs to test them: UNKNOWN says nothing.
+pub(crate) const UNKNOWN: u64 = 0;
+
+pub(crate) const KNOWN: u64 = 1;
+
 // What is known of the line so far, what the calls are lent, and how much of the output waits.
 // Whole words only: a struct of these stays in registers from byte to byte.
 pub struct Scan {
     pub line: u64,
     pub lent: usize,
+    // KNOWN where the words lent are known to be an accepted state
+    pub known: u64,
     pub used: usize,
     pub place: u64,
     // letters of the first word, one more than are kept where it is longer
@@ -140,18 +147,19 @@ pub(crate) fn numeric(form: u64) -> bool
 impl Scan {
     // At the start of the input.
     pub fn new(state: &[u64]) -> Self
-        ensures { λ r. ⌜ (r .lent ≤ length (now (state .entry))) × (r .used ≡ 0) ⌝ }
+        ensures { λ r. ⌜ (r .lent ≤ length (now (state .entry))) × ((r .known ≡ 0) × (r .used ≡ 0)) ⌝ }
     {
-        Scan::at_line(1, words::at_most(LENT, state), 0)
+        Scan::at_line(1, words::at_most(LENT, state), UNKNOWN, 0)
     }
 
     // At the start of a line.
-    pub(crate) fn at_line(line: u64, lent: usize, used: usize) -> Self
-        ensures { λ r. ⌜ (r .lent ≡ lent) × (r .used ≡ used) ⌝ }
+    pub(crate) fn at_line(line: u64, lent: usize, known: u64, used: usize) -> Self
+        ensures { λ r. ⌜ (r .lent ≡ lent) × ((r .known ≡ known) × (r .used ≡ used)) ⌝ }
     {
         Self {
             line,
             lent,
+            known,
             used,
             place: FIRST_WORD,
             letters: 0,
@@ -163,7 +171,7 @@ impl Scan {
 
     // A word that can be no argument.
     fn spoilt(mut self) -> Self
-        ensures { λ r. ⌜ (r .lent ≡ self .lent) × (r .used ≡ self .used) ⌝ }
+        ensures { λ r. ⌜ (r .lent ≡ self .lent) × ((r .known ≡ self .known) × (r .used ≡ self .used)) ⌝ }
     {
         self.form = OTHER;
         self
@@ -171,7 +179,7 @@ impl Scan {
 
     // A CR that no line's end follows belongs to a word, which is then neither a call nor an argument.
     pub(crate) fn past_cr(mut self) -> Self
-        ensures { λ r. ⌜ (r .lent ≡ self .lent) × (r .used ≡ self .used) ⌝ }
+        ensures { λ r. ⌜ (r .lent ≡ self .lent) × ((r .known ≡ self .known) × (r .used ≡ self .used)) ⌝ }
     {
         if self.place == ARGUMENT_CR {
             self.place = ARGUMENT;
@@ -188,7 +196,7 @@ impl Scan {
 
     // A CR, after past_cr.
     pub(crate) fn at_cr(mut self) -> Self
-        ensures { λ r. ⌜ (r .lent ≡ self .lent) × (r .used ≡ self .used) ⌝ }
+        ensures { λ r. ⌜ (r .lent ≡ self .lent) × ((r .known ≡ self .known) × (r .used ≡ self .used)) ⌝ }
     {
         if self.place == ARGUMENT {
             self.place = ARGUMENT_CR;
@@ -200,7 +208,7 @@ impl Scan {
 
     // The end of the line: a CR before it is passed over.
     pub(crate) fn without_cr(mut self) -> Self
-        ensures { λ r. ⌜ (r .lent ≡ self .lent) × (r .used ≡ self .used) ⌝ }
+        ensures { λ r. ⌜ (r .lent ≡ self .lent) × ((r .known ≡ self .known) × (r .used ≡ self .used)) ⌝ }
     {
         if self.place == ARGUMENT_CR {
             self.place = ARGUMENT;
@@ -211,7 +219,7 @@ impl Scan {
 
     // A digit in an argument.
     pub(crate) fn with_digit(mut self, b: u8) -> Self
-        ensures { λ r. ⌜ (r .lent ≡ self .lent) × (r .used ≡ self .used) ⌝ }
+        ensures { λ r. ⌜ (r .lent ≡ self .lent) × ((r .known ≡ self .known) × (r .used ≡ self .used)) ⌝ }
     {
         if self.form == NO_WORD {
             self.form = first_form(b);
@@ -231,7 +239,7 @@ impl Scan {
 
     // A byte in an argument; a digit only after a CR, where the word is spoilt already.
     pub(crate) fn with_byte(mut self, b: u8) -> Self
-        ensures { λ r. ⌜ (r .lent ≡ self .lent) × (r .used ≡ self .used) ⌝ }
+        ensures { λ r. ⌜ (r .lent ≡ self .lent) × ((r .known ≡ self .known) × (r .used ≡ self .used)) ⌝ }
     {
         if self.form != NO_WORD {
             return self.spoilt();

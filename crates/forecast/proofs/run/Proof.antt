@@ -1,24 +1,26 @@
 -- `forecast::run` meets its contract. Assumes nothing.
 use Prim.Native.Nat.{_≤_}
-use mathlib.Core.Path.{_≡_}
+use mathlib.Core.Path.{_≡_, refl}
 use lib.ListN.{length}
 use borrow.Author.Needs.{needs}
+use Rattle.call_list.specs.Lent.{Known}
+use Rattle.call_list.proofs.KnownLaws.{none-known, same-known}
 use Rattle.forecast.proofs.run.Statement.{statement}
 use Rattle.forecast.proofs.run.Tie as tie
 
 abbrev Inv-loop : tie.InvT-loop
-Inv-loop input₀ state₀ out₀ name₀ forms₀ values₀ s₀ turns₀ t11 input state out name forms values s turns =
-    ((s .lent ≤ length state) × (s .used ≤ length out)) × ((length state ≡ length state₀) × ((length out ≡ length out₀) × (length input ≡ length input₀)))
+Inv-loop input₀ state₀ out₀ name₀ forms₀ values₀ hints₀ s₀ turns₀ t11 input state out name forms values hints s turns =
+    ((s .lent ≤ length state) × (s .used ≤ length out)) × (Known (s .known) (s .lent) state × ((length state ≡ length state₀) × ((length out ≡ length out₀) × (length input ≡ length input₀))))
 
 abbrev μ-loop : tie.MeasureT-loop
-μ-loop input₀ state₀ out₀ name₀ forms₀ values₀ s₀ turns₀ t11 input state out name forms values s turns =
+μ-loop input₀ state₀ out₀ name₀ forms₀ values₀ hints₀ s₀ turns₀ t11 input state out name forms values hints s turns =
     turns
 
 new-requires : tie.Need-new-requires Inv-loop μ-loop
 new-requires c κs = search needs
 
 loop-holds : tie.Need-loop-holds Inv-loop μ-loop
-loop-holds c = search needs
+loop-holds c = (search needs, (same-known _ _ _ _ _ (none-known _ _) (c .new .ensures .1 .0) refl, search needs))
 
 turn-once-requires : tie.Need-turn-once-requires Inv-loop μ-loop
 turn-once-requires c κs = search needs
@@ -27,7 +29,7 @@ loop-less : tie.Need-loop-less Inv-loop μ-loop
 loop-less c = search needs
 
 loop-again : tie.Need-loop-again Inv-loop μ-loop
-loop-again c = search needs
+loop-again c = (search needs, (c .before .before .before .before .before .before .before .turn-once .ensures .1 .1, search needs))
 
 slice-aggregate-scan-piece : tie.Need-slice-aggregate-scan-piece Inv-loop μ-loop
 slice-aggregate-scan-piece c = search needs

@@ -1,34 +1,38 @@
 -- `call_list::calls::clear_action` meets its contract. Assumes nothing.
 use borrow.Author.Needs.{needs}
-use Rattle.call_list.proofs.LentLaws.{on-lent}
+use Rattle.call_list.proofs.KnownLaws.{part-accepted, refused-lent, made-lent}
 use Rattle.call_list.proofs.calls.clear_action.Statement.{statement}
 use Rattle.call_list.proofs.calls.clear_action.Tie as tie
 
-sub-clear-action : tie.Need-sub-clear-action
-sub-clear-action c = search needs
+returns : tie.Need-returns
+returns c = refused-lent _ _ _ _ (c .before .before .pre .1) (c .if1 .taken)
 
-part-clear-action-start : tie.Need-part-clear-action-start
-part-clear-action-start c = search needs
+sub-clear-action-on : tie.Need-sub-clear-action-on
+sub-clear-action-on c = search needs
 
-part-clear-action-end : tie.Need-part-clear-action-end
-part-clear-action-end c = search needs
+part-clear-action-on-start : tie.Need-part-clear-action-on-start
+part-clear-action-on-start c = search needs
 
-clear-action-requires : tie.Need-clear-action-requires
-clear-action-requires c κs = search needs
+part-clear-action-on-end : tie.Need-part-clear-action-on-end
+part-clear-action-on-end c = search needs
+
+clear-action-on-requires : tie.Need-clear-action-on-requires
+clear-action-on-requires c κs = part-accepted (c .before .before .before .args .lent) (c .before .before .before .args .state .now) _ (c .before .before .before .pre .1) (c .before .if1 .left)
 
 same-length : tie.Need-same-length
 same-length c = search needs
 
-returns : tie.Need-returns
-returns c = search on-lent
+returns-2 : tie.Need-returns-2
+returns-2 c = made-lent _ _ _ _ _ _ (c .before .before .before .before .before .before .pre .0) (c .before .before .before .before .before .before .pre .1) (c .before .before .before .before .if1 .left) (c .before .before .clear-action-on .ensures)
 
 pub clear-action-spec : {M : Type 1} → statement M
 clear-action-spec =
     tie.close
     (tie.spec
-    sub-clear-action
-    part-clear-action-start
-    part-clear-action-end
-    clear-action-requires
+    returns
+    sub-clear-action-on
+    part-clear-action-on-start
+    part-clear-action-on-end
+    clear-action-on-requires
     same-length
-    returns)
+    returns-2)

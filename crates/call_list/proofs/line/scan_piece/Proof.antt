@@ -3,14 +3,16 @@ use Prim.Native.Nat.{_≤_, _-_}
 use mathlib.Core.Path.{_≡_}
 use lib.ListN.{length}
 use borrow.Author.Needs.{needs}
+use Rattle.call_list.specs.Lent.{Known}
 use Rattle.call_list.proofs.line.scan_piece.Statement.{statement}
 use Rattle.call_list.proofs.line.scan_piece.Tie as tie
 
 abbrev Inv-loop : tie.InvT-loop
-Inv-loop input state₀ out₀ name₀ forms₀ values₀ s₀ i₀ state out name forms values s i = (i ≤ length input) × (((s .lent ≤ length state) × (s .used ≤ length out)) × ((length state ≡ length state₀) × (length out ≡ length out₀)))
+Inv-loop input state₀ out₀ name₀ forms₀ values₀ hints₀ s₀ i₀ state out name forms values hints s i =
+    (i ≤ length input) × (((s .lent ≤ length state) × (s .used ≤ length out)) × (Known (s .known) (s .lent) state × ((length state ≡ length state₀) × (length out ≡ length out₀))))
 
 abbrev μ-loop : tie.MeasureT-loop
-μ-loop input state₀ out₀ name₀ forms₀ values₀ s₀ i₀ state out name forms values s i = length input - i
+μ-loop input state₀ out₀ name₀ forms₀ values₀ hints₀ s₀ i₀ state out name forms values hints s i = length input - i
 
 loop-holds : tie.Need-loop-holds Inv-loop μ-loop
 loop-holds c = search needs
@@ -28,7 +30,7 @@ loop-less : tie.Need-loop-less Inv-loop μ-loop
 loop-less c = search needs
 
 loop-again : tie.Need-loop-again Inv-loop μ-loop
-loop-again c = search needs
+loop-again c = (search needs, (search needs, (c .before .before .before .before .next-byte .ensures .1, search needs)))
 
 same-length : tie.Need-same-length Inv-loop μ-loop
 same-length c = search needs
