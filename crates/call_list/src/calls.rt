@@ -462,6 +462,26 @@ fn listed(
     }
 }
 
+// Whether the line makes no call on the words: it lists them, or is no call.
+fn leaves_words(call: Call) -> bool {
+    match call {
+        Call::Bad => true,
+        Call::Show => true,
+        Call::Words => true,
+        _ => false,
+    }
+}
+
+// Whether the words lent are others after the line, whatever they were.
+fn changes_words(call: Call) -> bool {
+    match call {
+        Call::Lend => true,
+        Call::Word => true,
+        Call::Open => true,
+        _ => false,
+    }
+}
+
 // The line whose first word has so many letters and which has so many arguments.
 pub(crate) fn line_answered(
     line_number: u64,
@@ -482,11 +502,11 @@ pub(crate) fn line_answered(
     ensures { λ r. ⌜ Known (r .known) (r .lent) (now (state .exit)) ⌝ }
 {
     let call = words::understood(name, letters, forms, arguments, values);
-    if words::leaves_words(call) {
+    if leaves_words(call) {
         let used = listed(call, line_number, lent, state, out, used);
         return Left { lent, known, used };
     }
-    if words::changes_words(call) {
+    if changes_words(call) {
         return changed(call, values, forms, lent, state, out, used);
     }
     called(call, values, lent, known, hints, state, out, used)

@@ -175,26 +175,6 @@ pub(crate) fn understood(
     call
 }
 
-// Whether the line makes no call on the words: it lists them, or is no call.
-pub(crate) fn leaves_words(call: Call) -> bool {
-    match call {
-        Call::Bad => true,
-        Call::Show => true,
-        Call::Words => true,
-        _ => false,
-    }
-}
-
-// Whether the words lent are others after the line, whatever they were.
-pub(crate) fn changes_words(call: Call) -> bool {
-    match call {
-        Call::Lend => true,
-        Call::Word => true,
-        Call::Open => true,
-        _ => false,
-    }
-}
-
 // n words, or all there are.
 pub(crate) fn at_most(n: usize, state: &[u64]) -> usize
     ensures { λ r. ⌜ r ≤ length (now (state .entry)) ⌝ }
