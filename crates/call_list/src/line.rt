@@ -1,4 +1,5 @@
 // A line, byte by byte: its first word is kept in `name`; of each argument `forms` keeps what it is and `values` its number.
+// `hints` goes from call to call: the last records of the chains, of which nothing is promised.
 ghost use mathlib.Core.Path.{_≡_};
 ghost use Prim.Native.Nat.{_≤_};
 ghost use lib.ListN.{length};
