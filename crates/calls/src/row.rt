@@ -16,9 +16,6 @@ use event::answer::Choice;
 use event::answer::Step;
 use moment::Moment;
 
-// The words of a row and of an answer.
-pub const WORDS: usize = 12;
-
 // The codes of the calls; a turn is the last.
 pub const PUSH: u64 = 0;
 
