@@ -2,7 +2,6 @@
 use Prim.Native.Nat.{ℕ, zero, suc, _+_, _-_, _*_, _/_, _%_, _<_, _≤_}
 use mathlib.Core.Bool.{Bool, true, false}
 use mathlib.Core.List.{List}
-use mathlib.Core.Logic.{inl, inr}
 use mathlib.Core.Option.{Option, none}
 use mathlib.Core.Path.{_≡_, refl, sym, ap, subst, _∙_}
 use native.Mathlib.Omega.{arith}
@@ -14,6 +13,7 @@ use Rattle.layout.specs.Accepted.{Good}
 use Rattle.layout.specs.Header.{SlotOk}
 use Rattle.layout.specs.Layout.{lessOne, bank, firsts, actionFrom, stateFrom}
 use Rattle.layout.specs.Spare.{Spare}
+use Rattle.layout.proofs.Spares.{spare-low, spare-middle, spare-last}
 use Rattle.layout.proofs.Banks.{bank-at}
 use Rattle.layout.proofs.FixedValues.{less-one, action-same}
 use Rattle.layout.proofs.FixedChains.{low-same, links-same}
@@ -98,9 +98,9 @@ module _ (h rs h′ rs′ : List ℕ) (g : Good h rs) (g′ : Good h′ rs′) (
       where
         go : (a : Bool) → ltb i 18 ≡ a → (b : Bool) → ltb i 24 ≡ b → (c : Bool) → ltb i 48 ≡ c → (d : Bool) → ltb i 64 ≡ d → (e : Bool) → ltb i 96 ≡ e → (f : Bool) → ltb i 192 ≡ f → getD h i 0 ≡ getD h′ i 0
         go true p b q c r d s e t f u = low-same h rs h′ rs′ g g′ same i (ltb-true i 18 p)
-        go false p true q c r d s e t f u = spare i (inl (ltb-false i 18 p, ltb-true i 24 q))
+        go false p true q c r d s e t f u = spare i (spare-low i (ltb-false i 18 p) (ltb-true i 24 q))
         go false p false q true r d s e t f u = link-word i (ltb-false i 24 q) (ltb-true i 48 r)
-        go false p false q false r true s e t f u = spare i (inr (inl (ltb-false i 48 r, ltb-true i 64 s)))
+        go false p false q false r true s e t f u = spare i (spare-middle i (ltb-false i 48 r) (ltb-true i 64 s))
         go false p false q false r false s true t f u = timer-word i (ltb-false i 64 s) (ltb-true i 96 t)
         go false p false q false r false s false t true u = action-word i (ltb-false i 96 t) (ltb-true i 192 u)
-        go false p false q false r false s false t false u = spare i (inr (inr (ltb-false i 192 u, l)))
+        go false p false q false r false s false t false u = spare i (spare-last i (ltb-false i 192 u) l)

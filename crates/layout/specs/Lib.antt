@@ -6,5 +6,6 @@ pub mod Accepted
 pub mod Places
 pub mod Spare
 pub mod Opened
+pub mod Packed
 pub mod Changes
 pub mod Shape

@@ -3,7 +3,7 @@ use Prim.Native.Nat.{ℕ, _+_, _≤_, _<_, _*_}
 use mathlib.Core.Path.{_≡_, refl, sym, ap, _∙_}
 use mathlib.Core.Bool.{Bool, true, false, false≢true}
 use mathlib.Core.List.{List}
-use mathlib.Core.Logic.{_⊎_, inl, inr}
+use mathlib.Core.Logic.{_⊎_}
 use native.Mathlib.Omega.{arith}
 use lib.ListN.{getD, set, take, length-set}
 use lib.Seq.{getD-set-other, getD-take}
@@ -32,6 +32,7 @@ use Rattle.layout.proofs.Stores.{ended-shaped, ended-stored}
 use Rattle.layout.proofs.Theorems.{holds-accepted}
 use Rattle.queue.proofs.Changing.{shaped-count}
 use Rattle.queue.proofs.Sizes.{stamps-length}
+use Rattle.layout.proofs.Spares.{spare-chains, spare-head}
 use Rattle.network_stack.specs.declared.plan.Plan.{Plan}
 use Rattle.network_stack.specs.declared.plan.Plan.the-variants.{Nothing, Pad, Queue, Send}
 use Rattle.network_stack.specs.Steps.{MayMake, MayStep, Planned, StepDone, afterOf, noRoom, planGivesBack, planSums}
@@ -78,14 +79,10 @@ answer-is false = refl
 
 -- a word without a meaning is none that a change of chains writes
 spare-beside : (i : ℕ) → Spare i → (i < 256) × ((i < 24) ⊎ (48 ≤ i))
-spare-beside i (inl p) = let x = p .0 in let y = p .1 in (omega arith, inl (omega arith))
-spare-beside i (inr (inl p)) = let x = p .0 in let y = p .1 in (omega arith, inr (omega arith))
-spare-beside i (inr (inr p)) = let x = p .0 in let y = p .1 in (omega arith, inr (omega arith))
+spare-beside i s = (spare-head i s .1, spare-chains i s)
 
 spare-not : (i : ℕ) → Spare i → i ≡ 16 → ⊥
-spare-not i (inl p) e = let x = p .0 in omega arith
-spare-not i (inr (inl p)) e = let x = p .0 in omega arith
-spare-not i (inr (inr p)) e = let x = p .0 in omega arith
+spare-not i s e = omega (arith, spare-head i s .0)
 
 clash : {A : Type 0} (b : Bool) → b ≡ true → b ≡ false → A
 clash b p q = absurd (false≢true (sym q ∙ p))

@@ -2,7 +2,6 @@
 use Prim.Native.Nat.{ℕ, _≤_}
 use mathlib.Core.Path.{_≡_, refl, ap, subst, _∙_}
 use mathlib.Core.List.{List}
-use mathlib.Core.Logic.{inl, inr}
 use native.Mathlib.Omega.{arith}
 use lib.ListN.{length}
 use Rattle.rules.specs.State.{Event, State, withSide, SideState}
@@ -13,6 +12,7 @@ use Rattle.queue.specs.Changes.{Beside, Leaves}
 use Rattle.queue.specs.Pushes.{MayPush}
 use Rattle.event.specs.Values.{eventValue}
 use Rattle.event.specs.declared.SimEvent.{SimEvent}
+use Rattle.layout.proofs.Spares.{spare-head, spare-chains}
 use Rattle.queue.proofs.Sizes.{free-length}
 use Rattle.round.specs.Changes.{SpareKept, Becomes}
 use Rattle.round.specs.Cases.{Shows}
@@ -21,9 +21,7 @@ use Rattle.round.proofs.HeaderWords.{becomes-then}
 -- ---- what queueing and giving back leave
 
 pub beside-spare : (w left : List ℕ) → Beside w left → SpareKept w left
-beside-spare w left b i (inl p) = b i (omega (arith, p .1)) (inl (p .1))
-beside-spare w left b i (inr (inl p)) = b i (omega (arith, p .1)) (inr (p .0))
-beside-spare w left b i (inr (inr p)) = b i (p .1) (inr (omega (arith, p .0)))
+beside-spare w left b i s = b i (spare-head i s .1) (spare-chains i s)
 
 pub leaves-becomes : (w left : List ℕ) (s : State) → Leaves w left s → Becomes w left s
 leaves-becomes w left s l = record { shaped = l .shaped; state = l .state; size = l .size; spare = beside-spare w left (l .beside) }

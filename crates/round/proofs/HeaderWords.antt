@@ -3,7 +3,6 @@ use Prim.Native.Nat.{ℕ, _+_, _*_, _<_, _≤_, _^_}
 use mathlib.Core.Path.{_≡_, refl, sym, ap, subst, _∙_}
 use mathlib.Core.Bool.{Bool, true, false}
 use mathlib.Core.List.{List}
-use mathlib.Core.Logic.{inl, inr}
 use mathlib.Core.Option.{some}
 use native.Mathlib.Omega.{arith}
 use native.Mathlib.Numerals.{add-one}
@@ -21,6 +20,7 @@ use Rattle.layout.specs.Changes.{sideNo, putAction}
 use Rattle.layout.proofs.Banks.{bank-at}
 use Rattle.layout.proofs.Stores.{sum-shaped, sum-stored, block-shaped, block-stored, flag-shaped, flag-stored, ended-shaped, ended-stored, rounds-shaped, rounds-stored, timer-shaped, timer-stored}
 use Rattle.layout.proofs.ActionStores.{action-shaped, action-stored}
+use Rattle.layout.proofs.Spares.{spare-head, spare-slots}
 use Rattle.round.specs.Changes.{SpareKept, Becomes, raisedBy, unblocked, blockedTo, slotAt, bitOf}
 
 -- ---- reading
@@ -63,14 +63,10 @@ spare-set : (w : List ℕ) (i v : ℕ) → ((j : ℕ) → Spare j → j ≡ i �
 spare-set w i v d j s = getD-set-other w i j v 0 (d j s)
 
 low-spare : (i j : ℕ) → i < 18 → Spare j → j ≡ i → ⊥
-low-spare i j l (inl p) e = omega (arith, p .0)
-low-spare i j l (inr (inl p)) e = omega (arith, p .0)
-low-spare i j l (inr (inr p)) e = omega (arith, p .0)
+low-spare i j l s e = omega (arith, spare-head j s .0)
 
 slot-spare : (i j : ℕ) → 64 ≤ i → i < 192 → Spare j → j ≡ i → ⊥
-slot-spare i j a b (inl p) e = omega (arith, p .1)
-slot-spare i j a b (inr (inl p)) e = omega (arith, p .1)
-slot-spare i j a b (inr (inr p)) e = omega (arith, p .0)
+slot-spare i j a b s e = spare-slots j i s a b e
 
 pub then-spare : (a b c : List ℕ) → SpareKept a b → SpareKept b c → SpareKept a c
 then-spare a b c p q i s = q i s ∙ p i s

@@ -13,6 +13,8 @@ pub mod Effects
 pub mod Refusals
 pub mod Calls
 pub mod Opening
+pub mod Contents
+pub mod Packing
 pub mod CallLists
 pub mod CaseStates
 pub mod Cases

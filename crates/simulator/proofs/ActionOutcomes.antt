@@ -3,7 +3,6 @@ use Prim.Native.Nat.{ℕ, zero, suc, _+_, _*_, _≤_, _<_}
 use mathlib.Core.Path.{_≡_, refl, sym, ap, subst, _∙_}
 use mathlib.Core.Bool.{Bool, false, not, false≢true}
 use mathlib.Core.List.{List}
-use mathlib.Core.Logic.{inl, inr}
 use native.Mathlib.Omega.{arith}
 use lib.ListN.{length, getD}
 use Rattle.rules.specs.Basics.{isSome}
@@ -19,6 +18,7 @@ use Rattle.queue_event.specs.Tag.{bit}
 use Rattle.layout.specs.Spare.{Spare}
 use Rattle.layout.specs.Layout.{stateOf}
 use Rattle.layout.specs.Changes.{sideNo, putAction}
+use Rattle.layout.proofs.Spares.{spare-slots}
 use Rattle.layout.proofs.ActionStores.{length-action, action-far, action-shaped, action-stored}
 use Rattle.layout.proofs.ActionWords.{actionWord, action-back, padding-canonical, block-canonical, empty-canonical, empty-back}
 use Rattle.simulator.specs.Kept.{KeptAction, putIn}
@@ -31,9 +31,7 @@ use Rattle.simulator.proofs.Working.{outcome-done, passed-shaped}
 
 -- no word without a meaning is an action's
 action-spare : (w : List ℕ) (j a t d : ℕ) → j < 32 → (i : ℕ) → Spare i → getD (putAction j a t d w) i 0 ≡ getD w i 0
-action-spare w j a t d small i (inl x) = action-far w j a t d i (λ e. omega arith) (λ e. omega arith) (λ e. omega arith)
-action-spare w j a t d small i (inr (inl x)) = action-far w j a t d i (λ e. omega arith) (λ e. omega arith) (λ e. omega arith)
-action-spare w j a t d small i (inr (inr x)) = action-far w j a t d i (λ e. omega arith) (λ e. omega arith) (λ e. omega arith)
+action-spare w j a t d small i s = action-far w j a t d i (spare-slots i (96 + 3 * j) s (omega arith) (omega arith)) (spare-slots i (97 + 3 * j) s (omega arith) (omega arith)) (spare-slots i (98 + 3 * j) s (omega arith) (omega arith))
 
 -- ---- the words of an action that may be set
 

@@ -3,7 +3,7 @@ use Prim.Native.Nat.{ℕ, suc, _≤_, _<_}
 use mathlib.Core.Path.{_≡_, refl, sym, ap, subst, _∙_}
 use mathlib.Core.Bool.{Bool, true, false, _&&_, true≢false}
 use mathlib.Core.List.{List}
-use mathlib.Core.Logic.{_⊎_, inl, inr}
+use mathlib.Core.Logic.{_⊎_}
 use mathlib.Core.Option.{Option·getD, Option·map}
 use native.Mathlib.Omega.{arith}
 use lib.ListN.{getD, take, drop}
@@ -25,6 +25,7 @@ use Rattle.layout.specs.Layout.{stateOf}
 use Rattle.queue.specs.Changes.{Leaves, countIn}
 use Rattle.queue.specs.Pushes.{Canonical, MayPush}
 use Rattle.event.proofs.Numbers.{kind-some}
+use Rattle.layout.proofs.Spares.{spare-chains, spare-head}
 use Rattle.simulator.specs.Kept.{keptEvent}
 use Rattle.simulator.specs.Does.{Does}
 use Rattle.simulator.specs.Outcome.{Outcome}
@@ -55,9 +56,7 @@ value-is e l = λ d.
 
 -- no word without a meaning is a head or a count
 spared : (w left : List ℕ) → ((i : ℕ) → i < 256 → (i < 24) ⊎ (48 ≤ i) → getD left i 0 ≡ getD w i 0) → (i : ℕ) → Spare i → getD left i 0 ≡ getD w i 0
-spared w left b i (inl x) = b i (omega arith) (inl (x .1))
-spared w left b i (inr (inl x)) = b i (omega arith) (inr (x .0))
-spared w left b i (inr (inr x)) = b i (x .1) (inr (omega arith))
+spared w left b i s = b i (spare-head i s .1) (spare-chains i s)
 
 module _ (w : List ℕ) (e : SimEvent) (n : ℕ) (num : Numbered w (push (eventIn e)) n) (z : n ≡ 0) where
   abbrev pushing : Call

@@ -3,7 +3,6 @@ use Prim.Native.Nat.{ℕ, suc, _+_, _*_, _^_, _≤_, _<_}
 use mathlib.Core.Path.{_≡_, refl, sym, subst, _∙_}
 use mathlib.Core.Bool.{Bool, true, false}
 use mathlib.Core.List.{List}
-use mathlib.Core.Logic.{inl, inr}
 use native.Mathlib.Omega.{arith}
 use native.Mathlib.Numerals.{add-one}
 use lib.ListN.{length, getD, set, take, drop, length-set}
@@ -22,6 +21,7 @@ use Rattle.layout.specs.Accepted.{Accepted}
 use Rattle.layout.specs.Spare.{Spare}
 use Rattle.layout.specs.Layout.{stateOf}
 use Rattle.layout.specs.Changes.{sideNo}
+use Rattle.layout.proofs.Spares.{spare-slots}
 use Rattle.layout.proofs.Stores.{timer-shaped, timer-stored}
 use Rattle.simulator.specs.Does.{Does}
 use Rattle.simulator.specs.Outcome.{Outcome}
@@ -33,9 +33,7 @@ use Rattle.simulator.proofs.Working.{outcome-done, passed-shaped}
 
 -- no word without a meaning is a timer's
 timer-spare : (w : List ℕ) (j v : ℕ) → j < 32 → (i : ℕ) → Spare i → getD (set w (64 + j) v) i 0 ≡ getD w i 0
-timer-spare w j v small i (inl x) = getD-set-other w (64 + j) i v 0 (λ e. omega arith)
-timer-spare w j v small i (inr (inl x)) = getD-set-other w (64 + j) i v 0 (λ e. omega arith)
-timer-spare w j v small i (inr (inr x)) = getD-set-other w (64 + j) i v 0 (λ e. omega arith)
+timer-spare w j v small i s = getD-set-other w (64 + j) i v 0 (spare-slots i (64 + j) s (omega arith) (omega arith))
 
 -- a machine that its side has
 pub has-small : (w : List ℕ) (c : Bool) (m : ℕ) → Accepted w → noMachine (stateOf w) (slotIn c m) ≡ false → m < 16

@@ -1,7 +1,9 @@
 pub mod Outcome
 pub mod Numbers
 pub mod Kept
+pub mod Packs
 pub mod Demand
+pub mod Same
 pub mod Openings
 pub mod OpeningParts
 pub mod StepNumbers
