@@ -1,5 +1,5 @@
 #!/usr/bin/env python3
-"""quotes.py DOCUMENT [ROOT]: the quotes in the comments of ROOT/crates/*/specs that stand neither in DOCUMENT (document 01) nor in a page of ROOT/docs.
+"""quotes.py DOCUMENT..: the quotes in the comments of crates/*/specs that stand neither in a DOCUMENT (01 and 02) nor in a page of docs/.
 
 A quote is what stands between two double quotes in a comment, over its lines, in three words or more. `[..]`, ` .. ` and a ` ..` at its end leave something
 out. White space, capital letters and the bars of a table are passed over. Exit 1 where one is found nowhere."""
@@ -37,8 +37,9 @@ def stands(quote, texts):
     return False
 
 
-def main(document, root="."):
-    pages = [document] + sorted(glob.glob(os.path.join(root, "docs/*.md")))
+def main(documents):
+    root = os.path.join(os.path.dirname(os.path.abspath(__file__)), "..")
+    pages = documents + sorted(glob.glob(os.path.join(root, "docs/*.md")))
     texts = [plain(open(p, encoding="utf-8").read()) for p in pages]
     amiss = count = 0
     for path in sorted(glob.glob(os.path.join(root, "crates/*/specs/**/*.antt"), recursive=True)):
@@ -57,4 +58,4 @@ def main(document, root="."):
 if __name__ == "__main__":
     if len(sys.argv) < 2:
         sys.exit(__doc__)
-    sys.exit(main(*sys.argv[1:]))
+    sys.exit(main(sys.argv[1:]))

@@ -9,7 +9,8 @@ import os, pathlib, re, shutil, subprocess, sys, tempfile
 
 REPO = pathlib.Path(__file__).resolve().parent.parent
 SOURCE = pathlib.Path(os.environ.get("MAYBENOT_SRC", REPO.parent / "shared/docs/src"))
-DOCUMENT = pathlib.Path(os.environ.get("DOCUMENT_01", REPO.parent / "shared/docs/01-scope.md"))
+SCOPE = pathlib.Path(os.environ.get("DOCUMENT_01", REPO.parent / "shared/docs/01-scope.md"))
+REQUESTS = pathlib.Path(os.environ.get("DOCUMENT_02", REPO.parent / "shared/docs/02-change-requests.md"))
 RT = shutil.which("rt")
 TARGET = "bin rlib stamp log runs rust staticlib must-fail".split()
 CLOSING = re.compile(r"^\d+ passed, 0 failed$", re.M)
@@ -47,7 +48,7 @@ class Trial:
 
     def __init__(self, work):
         self.work, self.repo = work, work / "repo"
-        self.env = dict(os.environ, MAYBENOT_SRC=str(SOURCE), DOCUMENT_01=str(DOCUMENT), PATH=f"{work}/bin:{os.environ['PATH']}")
+        self.env = dict(os.environ, MAYBENOT_SRC=str(SOURCE), DOCUMENT_01=str(SCOPE), DOCUMENT_02=str(REQUESTS), PATH=f"{work}/bin:{os.environ['PATH']}")
 
     def __truediv__(self, file):
         return self.repo / file
@@ -134,7 +135,8 @@ TRIALS = [
     ("no cargo", GREEN, "not compared with the Rust: runs/build: no cargo", lambda t: t.without("cargo")),
     ("no gcc", GREEN, "not tested from C and Rust: bindings: gcc is not there", lambda t: t.without("gcc")),
     ("no source", GREEN, "not compared with the Rust: runs/build: no source", lambda t: t.env.update(MAYBENOT_SRC=str(t.work / "none"))),
-    ("no document 01", GREEN, "quotes not held to document 01", lambda t: t.env.update(DOCUMENT_01=str(t.work / "none"))),
+    ("no document 01", GREEN, "quotes not held to documents 01 and 02", lambda t: t.env.update(DOCUMENT_01=str(t.work / "none"))),
+    ("no document 02", GREEN, "quotes not held to documents 01 and 02", lambda t: t.env.update(DOCUMENT_02=str(t.work / "none"))),
     ("no python3", RED, "no python3", lambda t: t.without("python3")),
 ]
 
