@@ -6,7 +6,7 @@ use native.Mathlib.Omega.{arith}
 use lib.ListN.{length, getD, length-append, length-replicate, replicate}
 use Rattle.queue_event.specs.Chain.{Rec, nodes, Chain as Linked}
 use Rattle.layout.specs.Records.{chainCount}
-use Rattle.layout.specs.Packed.{firstOf, chainWords, usedTo, usedWords, usedIn, freeIn, packedRecords, packedChain, packedStart, packedHead, packedCount}
+use Rattle.layout.specs.Packed.{chainWords, usedTo, usedWords, usedIn, freeIn, packedRecords, packedChain, packedStart, packedHead, packedCount}
 use Rattle.layout.proofs.PackedChains.{Stand, stand-left, stand-right, length-chain, length-used, used-next, used-least, used-stand, placed, read-back, linked-back, Marked}
 
 stand-all : (rs : List ℕ) → Stand rs 0 rs

@@ -9,8 +9,10 @@ use lib.ListN.{length, getD, length-append, List·getD-append}
 use lib.Seq.{getD-append-add}
 use borrow.Author.Tests.{ltb-true, ltb-false}
 use Rattle.queue_event.specs.Words.{word, nextOf, momentOf, lengthOf, tagOf}
-use Rattle.queue_event.specs.Chain.{Rec, Node, nodes, contents, recAt, markOf, Chain as Linked}
+use Rattle.queue_event.specs.Chain.{Rec, Node, nodes, contents, recAt, Chain as Linked}
+use Rattle.queue_event.specs.Tag.{markOf}
 use Rattle.layout.specs.Packed.{firstOf, chainWords, usedTo, usedWords}
+use Rattle.layout.proofs.Counts.{length-map, length-nodes}
 
 -- ---- how long they are
 
@@ -50,9 +52,7 @@ used-least c d e l = subst (λ k. usedTo c d ≤ usedTo c k) sum (used-more c d 
     sum = omega arith
 
 pub length-contents : (rs : List ℕ) (n h : ℕ) → length (contents rs n h) ≡ n
-unfolding nodes
-length-contents rs zero h = refl
-length-contents rs (suc n) h = ap suc (length-contents rs n (nextOf rs h))
+length-contents rs n h = length-map (λ (x : Node). x .rec) (nodes rs n h) ∙ length-nodes rs n h
 
 -- ---- words that stand among others
 
@@ -131,7 +131,10 @@ linked-back rs k p (x ∷ l) o fits m s = (
   record { one = o; fits = omega arith },
   ap markOf (tag-is rs p (firstOf (suc p) l) (x .moment) (x .size) (x .tag) (chainWords (suc p) l) s) ∙ m .0,
   subst (Linked rs k (length l)) (sym (next-is rs p (firstOf (suc p) l) (x .moment) (x .size) (x .tag) (chainWords (suc p) l) s))
-      (linked-back rs k (suc p) l (omega arith) (omega arith) (m .1) (after rs p (firstOf (suc p) l) (x .moment) (x .size) (x .tag) (chainWords (suc p) l) s o)),
+      (
+      linked-back rs k (suc p) l (omega arith) (omega arith) (m .1)
+      (after rs p (firstOf (suc p) l) (x .moment) (x .size) (x .tag) (chainWords (suc p) l) s o)
+      ),
 )
 
 -- ---- chain k + 1 of those from 1 to n

@@ -1,6 +1,6 @@
 -- What is packed is accepted, and as long as it was. Assumes nothing.
 use Prim.Native.Nat.{ℕ, zero, suc, _+_, _-_, _*_, _/_, _≤_, _<_}
-use mathlib.Core.Path.{_≡_, refl, sym, ap, subst, _∙_}
+use mathlib.Core.Path.{_≡_, refl, sym, subst, _∙_}
 use mathlib.Core.List.{List, [], _∷_}
 use mathlib.Core.Logic.{inl, inr}
 use native.Mathlib.Omega.{arith}
@@ -16,7 +16,7 @@ use Rattle.layout.proofs.Order.{free-order}
 use Rattle.layout.proofs.ChainWords.{count-le}
 use Rattle.layout.proofs.TwoKept.{is-ok, free-fit}
 use Rattle.layout.proofs.Counts.{reserve-state, reserve-words}
-use Rattle.layout.proofs.PackedChains.{used-next, length-contents, placed, Marked}
+use Rattle.layout.proofs.PackedChains.{length-contents, placed, Marked}
 use Rattle.layout.proofs.PackedBack.{length-free, length-packed, packed-held, packed-linked, free-marked}
 use Rattle.layout.proofs.PackedHeader.{Copied, packHead, head-copied, head-is, count-is, from-length, from-head, from-rest}
 
@@ -143,6 +143,9 @@ module _ (h rs : List ℕ) (f : ℕ → ℕ) (old : (i : ℕ) → i < 256 → f 
   free-count : countOf h′ 0 ≡ r - usedIn c
   free-count = count-is f c r 0 (omega arith) ∙ length-free c r
 
+  reserve-kept : used h′ rs′ + reserved h′ ≤ room rs′
+  reserve-kept = omega (arith, room-kept, free-count, used-all, used-fits, reserve-copied h h′ words-copied, reserve-words h rs g)
+
   pub packed-good : Good h′ rs′
   packed-good =
       record {
@@ -150,22 +153,22 @@ module _ (h rs : List ℕ) (f : ℕ → ℕ) (old : (i : ℕ) → i < 256 → f 
         slots = slots-copied h h′ words-copied (g .slots);
         chains = chain-packed;
         counts = counts-kept;
-        reserve = reserve-state h′ rs′ counts-kept (omega (arith, room-kept, free-count, used-all, used-fits, reserve-copied h h′ words-copied, reserve-words h rs g));
+        reserve = reserve-state h′ rs′ counts-kept reserve-kept;
       }
 
 -- ---- the words
+
+pub old-word : (w : List ℕ) (i : ℕ) → i < 256 → getD w i 0 ≡ getD (take 256 w) i 0
+old-word w i l = sym (getD-take 256 w i 0 l)
 
 module _ (w : List ℕ) (a : Accepted w) where
   abbrev f : ℕ → ℕ
   f i = getD w i 0
 
-  old : (i : ℕ) → i < 256 → getD w i 0 ≡ getD (take 256 w) i 0
-  old i l = sym (getD-take 256 w i 0 l)
-
   pub packed-size : length (packedWords w) ≡ length w
   unfolding packedWords
   packed-size =
-      from-length f (chainRecs (take 256 w) (drop 256 w)) (room (drop 256 w)) (used-fits (take 256 w) (drop 256 w) f old (a .good))
+      from-length f (chainRecs (take 256 w) (drop 256 w)) (room (drop 256 w)) (used-fits (take 256 w) (drop 256 w) f (old-word w) (a .good))
       ∙ omega (arith, length-drop 256 w, a .size .least, a .size .whole)
 
   pub packed-accepted : Accepted (packedWords w)
@@ -175,5 +178,5 @@ module _ (w : List ℕ) (a : Accepted w) where
         size = rw packed-size (a .size);
         good =
             rw (from-head f (chainRecs (take 256 w) (drop 256 w)) (room (drop 256 w)), from-rest f (chainRecs (take 256 w) (drop 256 w)) (room (drop 256 w)))
-            (packed-good (take 256 w) (drop 256 w) f old (a .good));
+            (packed-good (take 256 w) (drop 256 w) f (old-word w) (a .good));
       }

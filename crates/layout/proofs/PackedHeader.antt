@@ -98,12 +98,15 @@ module _ (f : ℕ → ℕ) (c : ℕ → List Rec) (r : ℕ) where
 
   pub from-head : take 256 (packedFrom f c r) ≡ packHead
   unfolding packedFrom
-  from-head = subst (λ k. take k (packHead ++ packedRecords c r) ≡ packHead) (length-table 256 (packedWord f c r)) (take-append-seam packHead (packedRecords c r))
+  from-head =
+      subst (λ k. take k (packHead ++ packedRecords c r) ≡ packHead) (length-table 256 (packedWord f c r))
+      (take-append-seam packHead (packedRecords c r))
 
   pub from-rest : drop 256 (packedFrom f c r) ≡ packedRecords c r
   unfolding packedFrom
   from-rest =
-      subst (λ k. drop k (packHead ++ packedRecords c r) ≡ packedRecords c r) (length-table 256 (packedWord f c r)) (drop-append-seam packHead (packedRecords c r))
+      subst (λ k. drop k (packHead ++ packedRecords c r) ≡ packedRecords c r) (length-table 256 (packedWord f c r))
+      (drop-append-seam packHead (packedRecords c r))
 
   pub from-spare : (i : ℕ) → Spare i → getD (packedFrom f c r) i 0 ≡ 0
   unfolding packedFrom
