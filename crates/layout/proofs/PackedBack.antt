@@ -5,6 +5,7 @@ use mathlib.Core.List.{List, _++_}
 use native.Mathlib.Omega.{arith}
 use lib.ListN.{length, getD, length-append, length-replicate, replicate}
 use Rattle.queue_event.specs.Chain.{Rec, nodes, Chain as Linked}
+use Rattle.queue_event.specs.Tag.{markOf}
 use Rattle.layout.specs.Records.{chainCount}
 use Rattle.layout.specs.Packed.{chainWords, usedTo, usedWords, usedIn, freeIn, packedRecords, packedChain, packedStart, packedHead, packedCount}
 use Rattle.layout.proofs.PackedChains.{Stand, stand-left, stand-right, length-chain, length-used, used-next, used-least, used-stand, placed, read-back, linked-back, Marked}
@@ -18,13 +19,9 @@ stand-all rs i l = ap (λ j. getD rs j 0) (none i)
 at-record : (u : ℕ) → 4 * u ≡ 4 * suc u - 4
 at-record u = omega arith
 
-zeros : Rec
-zeros = record { moment = 0; size = 0; tag = 0 }
-
-zeros-marked : (n : ℕ) → Marked 0 (replicate n zeros)
-unfolding zeros
-zeros-marked zero = tt
-zeros-marked (suc n) = (refl, zeros-marked n)
+same-marked : (k n : ℕ) (x : Rec) → markOf (x .tag) ≡ k → Marked k (replicate n x)
+same-marked k zero x e = tt
+same-marked k (suc n) x e = (e, same-marked k n x e)
 
 pub length-free : (c : ℕ → List Rec) (r : ℕ) → length (freeIn c r) ≡ r - usedIn c
 length-free c r = length-replicate (r - usedIn c) _
@@ -77,5 +74,4 @@ module _ (c : ℕ → List Rec) (r : ℕ) (fits : usedIn c ≤ r) where
 
   -- the free chain's records have its mark
   pub free-marked : Marked 0 (packedChain c r 0)
-  unfolding zeros
-  free-marked = zeros-marked (r - usedIn c)
+  free-marked = same-marked 0 (r - usedIn c) _ refl

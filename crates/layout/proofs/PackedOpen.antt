@@ -31,14 +31,14 @@ packed-spare w i s = from-spare _ _ _ i s
 -- ---- free records
 
 -- of records of zeros only the links are not 0
-zeros-words : (p n j : ℕ) → 0 < j % 4 → getD (chainWords p (replicate n (record { moment = 0; size = 0; tag = 0 }))) j 0 ≡ 0
+zeros-words : (p n j : ℕ) (x : Rec) → x .moment ≡ 0 → x .size ≡ 0 → x .tag ≡ 0 → 0 < j % 4 → getD (chainWords p (replicate n x)) j 0 ≡ 0
 unfolding chainWords
-zeros-words p zero j l = refl
-zeros-words p (suc n) zero l = absurd (omega arith)
-zeros-words p (suc n) (suc zero) l = refl
-zeros-words p (suc n) (suc (suc zero)) l = refl
-zeros-words p (suc n) (suc (suc (suc zero))) l = refl
-zeros-words p (suc n) (suc (suc (suc (suc j)))) l = zeros-words (suc p) n j (omega arith)
+zeros-words p zero j x a b c l = refl
+zeros-words p (suc n) zero x a b c l = absurd (omega arith)
+zeros-words p (suc n) (suc zero) x a b c l = a
+zeros-words p (suc n) (suc (suc zero)) x a b c l = b
+zeros-words p (suc n) (suc (suc (suc zero))) x a b c l = c
+zeros-words p (suc n) (suc (suc (suc (suc j)))) x a b c l = zeros-words (suc p) n j x a b c (omega arith)
 
 up-within : (p n q : ℕ) → Has q (upFrom p n) → (p ≤ q) × (q < p + n)
 unfolding Has
@@ -50,7 +50,7 @@ up-within p (suc n) q (inr y) = let z = up-within (suc p) n q y in (omega (arith
 free-word : (c : ℕ → List Rec) (r i : ℕ) → usedIn c ≤ r → 0 < i % 4 → 4 * usedIn c ≤ i → i < 4 * r → getD (packedRecords c r) i 0 ≡ 0
 free-word c r i fits m a b =
     ap (λ k. getD (packedRecords c r) k 0) place ∙ chain-stands c r fits 0 (omega arith) (i - 4 * usedIn c) inside
-    ∙ zeros-words (suc (usedIn c)) (r - usedIn c) (i - 4 * usedIn c) (omega arith)
+    ∙ zeros-words (suc (usedIn c)) (r - usedIn c) (i - 4 * usedIn c) _ refl refl refl (omega arith)
   where
     place : i ≡ 4 * suc (usedIn c) - 4 + (i - 4 * usedIn c)
     place = omega arith
