@@ -76,27 +76,43 @@ unfolding putChain
 beside-chain h k a n l i (inl o) = getD-set-other (set h (24 + 2 * k) a) (25 + 2 * k) i n 0 (λ e. omega arith) ∙ getD-set-other h (24 + 2 * k) i a 0 (λ e. omega arith)
 beside-chain h k a n l i (inr o) = getD-set-other (set h (24 + 2 * k) a) (25 + 2 * k) i n 0 (λ e. omega arith) ∙ getD-set-other h (24 + 2 * k) i a 0 (λ e. omega arith)
 
-module _ (h h′ : List ℕ) (same : Beside h h′) where
-  pub limits-beside : Limited h → Limited h′
-  limits-beside g i l = rw (same i (inl (omega arith))) (g i l)
+-- ---- what limits and slots look at
 
-  pub slots-beside : SlotsOk h → SlotsOk h′
-  slots-beside g j l =
+-- settings, sums, blocks, flags, ended mark and round total; timers and actions
+abbrev pub Copied : ℕ → Type 0
+Copied i = (i < 18) ⊎ ((64 ≤ i) × (i < 192))
+
+pub beside-copied : (h h′ : List ℕ) → Beside h h′ → (i : ℕ) → Copied i → getD h′ i 0 ≡ getD h i 0
+beside-copied h h′ b i (inl l) = b i (inl (omega arith))
+beside-copied h h′ b i (inr l) = b i (inr (omega (arith, l .0)))
+
+module _ (h h′ : List ℕ) (same : (i : ℕ) → Copied i → getD h′ i 0 ≡ getD h i 0) where
+  pub limits-copied : Limited h → Limited h′
+  limits-copied g i l = rw (same i (inl l)) (g i l)
+
+  pub slots-copied : SlotsOk h → SlotsOk h′
+  slots-copied g j l =
+      let s : getD h′ (8 + j / 16) 0 ≡ getD h (8 + j / 16) 0 = same (8 + j / 16) (inl (omega arith)) in
+      let t : getD h′ (64 + j) 0 ≡ getD h (64 + j) 0 = same (64 + j) (inr (omega arith, omega arith)) in
+      let a : getD h′ (96 + 3 * j) 0 ≡ getD h (96 + 3 * j) 0 = same (96 + 3 * j) (inr (omega arith, omega arith)) in
+      let m : getD h′ (97 + 3 * j) 0 ≡ getD h (97 + 3 * j) 0 = same (97 + 3 * j) (inr (omega arith, omega arith)) in
+      let d : getD h′ (98 + 3 * j) 0 ≡ getD h (98 + 3 * j) 0 = same (98 + 3 * j) (inr (omega arith, omega arith)) in
       record {
-        timer = rw (same (64 + j) (inr (omega arith))) (g j l .timer);
-        action = rw (same (96 + 3 * j) (inr (omega arith)), same (97 + 3 * j) (inr (omega arith)), same (98 + 3 * j) (inr (omega arith))) (g j l .action);
-        no-timer = rw (same (8 + j / 16) (inl (omega arith)), same (64 + j) (inr (omega arith))) (g j l .no-timer);
-        no-action = rw (same (8 + j / 16) (inl (omega arith)), same (96 + 3 * j) (inr (omega arith))) (g j l .no-action);
+        timer = rw t (g j l .timer);
+        action = rw (a, m, d) (g j l .action);
+        no-timer = rw (s, t) (g j l .no-timer);
+        no-action = rw (s, a) (g j l .no-action);
       }
 
-  pub machines-beside : (k : ℕ) → k < chainCount → machinesFor h′ k ≡ machinesFor h k
-  machines-beside k l = same (8 + k / 6) (inl (omega arith))
+  pub machines-copied : (k : ℕ) → k < chainCount → machinesFor h′ k ≡ machinesFor h k
+  machines-copied k l = same (8 + k / 6) (inl (omega arith))
 
-  room-beside : (n : ℕ) → n ≤ 32 → slotsRoom h′ n ≡ slotsRoom h n
+  room-copied : (n : ℕ) → n ≤ 32 → slotsRoom h′ n ≡ slotsRoom h n
   unfolding slotsRoom
-  room-beside zero l = refl
-  room-beside (suc j) l = rw (room-beside j (omega arith), same (64 + j) (inr (omega arith)), same (96 + 3 * j) (inr (omega arith)))
+  room-copied zero l = refl
+  room-copied (suc j) l =
+      rw (room-copied j (omega arith), same (64 + j) (inr (omega arith, omega arith)), same (96 + 3 * j) (inr (omega arith, omega arith)))
 
-  pub reserve-beside : reserved h′ ≡ reserved h
+  pub reserve-copied : reserved h′ ≡ reserved h
   unfolding reserved
-  reserve-beside = rw (same 12 (inl (omega arith)), same 13 (inl (omega arith)), room-beside 32 (omega arith))
+  reserve-copied = rw (same 12 (inl (omega arith)), same 13 (inl (omega arith)), room-copied 32 (omega arith))

@@ -1,6 +1,6 @@
 -- What is packed is accepted, and as long as it was. Assumes nothing.
-use Prim.Native.Nat.{ℕ, zero, suc, _+_, _-_, _*_, _/_, _≤_, _<_}
-use mathlib.Core.Path.{_≡_, refl, sym, subst, _∙_}
+use Prim.Native.Nat.{ℕ, zero, suc, _+_, _-_, _/_, _≤_, _<_}
+use mathlib.Core.Path.{_≡_, sym, subst, _∙_}
 use mathlib.Core.List.{List, [], _∷_}
 use mathlib.Core.Logic.{inl, inr}
 use native.Mathlib.Omega.{arith}
@@ -8,50 +8,17 @@ use lib.ListN.{length, getD, take, drop, length-drop}
 use lib.Seq.{getD-take}
 use Rattle.queue_event.specs.Chain.{Rec, Node, recs, Is}
 use Rattle.queue_event.specs.Tag.{kindField}
-use Rattle.layout.specs.Header.{Limited, SlotsOk, slotsRoom, reserved}
+use Rattle.layout.specs.Header.{reserved}
 use Rattle.layout.specs.Records.{chainCount, countOf, headOf, machinesFor, chainAt, Fit, Ordered, ChainOk, countsTo, used}
 use Rattle.layout.specs.Accepted.{Good, Accepted, room}
 use Rattle.layout.specs.Packed.{usedTo, usedIn, packedRecords, packedStart, packedChain, packedHead, packedCount, chainRecs, packedWords}
 use Rattle.layout.proofs.Order.{free-order}
-use Rattle.layout.proofs.ChainWords.{count-le}
+use Rattle.layout.proofs.ChainWords.{count-le, Copied, limits-copied, slots-copied, machines-copied, reserve-copied}
 use Rattle.layout.proofs.TwoKept.{is-ok, free-fit}
 use Rattle.layout.proofs.Counts.{reserve-state, reserve-words}
 use Rattle.layout.proofs.PackedChains.{length-contents, placed, Marked}
 use Rattle.layout.proofs.PackedBack.{length-free, length-packed, packed-held, packed-linked, free-marked}
-use Rattle.layout.proofs.PackedHeader.{Copied, packHead, head-copied, head-is, count-is, from-length, from-head, from-rest}
-
--- ---- limits and slots: the words that they look at are copied
-
-module _ (h h′ : List ℕ) (same : (i : ℕ) → Copied i → getD h′ i 0 ≡ getD h i 0) where
-  limits-copied : Limited h → Limited h′
-  limits-copied g i l = rw (same i (inl l)) (g i l)
-
-  slots-copied : SlotsOk h → SlotsOk h′
-  slots-copied g j l =
-      let s : getD h′ (8 + j / 16) 0 ≡ getD h (8 + j / 16) 0 = same (8 + j / 16) (inl (omega arith)) in
-      let t : getD h′ (64 + j) 0 ≡ getD h (64 + j) 0 = same (64 + j) (inr (omega arith, omega arith)) in
-      let a : getD h′ (96 + 3 * j) 0 ≡ getD h (96 + 3 * j) 0 = same (96 + 3 * j) (inr (omega arith, omega arith)) in
-      let m : getD h′ (97 + 3 * j) 0 ≡ getD h (97 + 3 * j) 0 = same (97 + 3 * j) (inr (omega arith, omega arith)) in
-      let d : getD h′ (98 + 3 * j) 0 ≡ getD h (98 + 3 * j) 0 = same (98 + 3 * j) (inr (omega arith, omega arith)) in
-      record {
-        timer = rw t (g j l .timer);
-        action = rw (a, m, d) (g j l .action);
-        no-timer = rw (s, t) (g j l .no-timer);
-        no-action = rw (s, a) (g j l .no-action);
-      }
-
-  machines-copied : (k : ℕ) → k < chainCount → machinesFor h′ k ≡ machinesFor h k
-  machines-copied k l = same (8 + k / 6) (inl (omega arith))
-
-  room-copied : (n : ℕ) → n ≤ 32 → slotsRoom h′ n ≡ slotsRoom h n
-  unfolding slotsRoom
-  room-copied zero l = refl
-  room-copied (suc j) l =
-      rw (room-copied j (omega arith), same (64 + j) (inr (omega arith, omega arith)), same (96 + 3 * j) (inr (omega arith, omega arith)))
-
-  reserve-copied : reserved h′ ≡ reserved h
-  unfolding reserved
-  reserve-copied = rw (same 12 (inl (omega arith)), same 13 (inl (omega arith)), room-copied 32 (omega arith))
+use Rattle.layout.proofs.PackedHeader.{packHead, head-copied, head-is, count-is, from-length, from-head, from-rest}
 
 -- ---- a chain in other records: what it may hold and its order are the records' own
 

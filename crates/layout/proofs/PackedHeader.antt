@@ -3,7 +3,7 @@ use Prim.Native.Nat.{ℕ, _+_, _-_, _*_, _/_, _%_, _≤_, _<_}
 use mathlib.Core.Path.{_≡_, refl, subst, _∙_}
 use mathlib.Core.Bool.{Bool, true, false}
 use mathlib.Core.List.{List, _++_}
-use mathlib.Core.Logic.{_⊎_, inl, inr}
+use mathlib.Core.Logic.{inl, inr}
 use native.Mathlib.Omega.{arith}
 use lib.ListN.{length, getD, take, drop, length-append, List·getD-append}
 use lib.Seq.{take-append-seam, drop-append-seam}
@@ -15,11 +15,8 @@ use Rattle.layout.specs.Opened.{table}
 use Rattle.layout.specs.Packed.{usedIn, packedRecords, packedHead, packedCount, packedWord, packedFrom}
 use Rattle.layout.proofs.Tables.{length-table, table-at}
 use Rattle.layout.proofs.Spares.{SpareAt, spare-at, spare-head}
+use Rattle.layout.proofs.ChainWords.{Copied}
 use Rattle.layout.proofs.PackedBack.{length-packed}
-
--- the words that stay: settings, sums, blocks, flags, ended mark and round total; timers and actions
-abbrev pub Copied : ℕ → Type 0
-Copied i = (i < 18) ⊎ ((64 ≤ i) × (i < 192))
 
 meaning : (i : ℕ) → (SpareAt i → ⊥) → spare i ≡ false
 meaning i n = go (spare i) refl

@@ -4,7 +4,7 @@ use mathlib.Core.Path.{_≡_, sym, ap, ap₂, subst, _∙_}
 use mathlib.Core.List.{List}
 use native.Mathlib.Omega.{arith}
 use native.Mathlib.Decide.{ℕ-discrete}
-use lib.ListN.{length}
+use lib.ListN.{length, getD}
 use Rattle.queue_event.specs.Words.{nextOf}
 use Rattle.queue_event.specs.Chain.{recAt, Node, nodes, Is, Chain as LinkedFrom}
 use Rattle.layout.specs.Header.{reserved}
@@ -12,7 +12,7 @@ use Rattle.layout.specs.Records.{chainCount, headOf, countOf, machinesFo
 use Rattle.layout.specs.Accepted.{Good, room}
 use Rattle.layout.specs.Changes.{putChain, putTwo, TwoChains}
 use Rattle.layout.proofs.Order.{free-order}
-use Rattle.layout.proofs.ChainWords.{length-chain, count-other, sum-above, count-le, Beside, beside-chain, limits-beside, slots-beside, machines-beside, reserve-beside}
+use Rattle.layout.proofs.ChainWords.{length-chain, count-other, sum-above, count-le, Beside, beside-chain, beside-copied, Copied, limits-copied, slots-copied, machines-copied, reserve-copied}
 use Rattle.layout.proofs.TwoChains.{count-one, head-one, count-two, head-two, count-else, head-else}
 use Rattle.layout.proofs.Counts.{reserve-state}
 
@@ -46,6 +46,9 @@ module _ (h rs rs′ : List ℕ) (j a n k b m : ℕ) (y x : List Node) (t : TwoC
   pub two-beside : Beside h (putTwo h j a n k b m)
   two-beside i o = beside-chain (putChain h j a n) k b m (t .other-small) i o ∙ beside-chain h j a n (t .one-small) i o
 
+  two-copied : (i : ℕ) → Copied i → getD (putTwo h j a n k b m) i 0 ≡ getD h i 0
+  two-copied = beside-copied h (putTwo h j a n k b m) two-beside
+
   two-sum : countsTo (putTwo h j a n k b m) chainCount ≡ countsTo h chainCount
   two-sum =
       omega (
@@ -60,7 +63,7 @@ module _ (h rs rs′ : List ℕ) (j a n k b m : ℕ) (y x : List Node) (t : TwoC
   counted i l = rw (t .len) (omega (arith, count-le (putTwo h j a n k b m) i chainCount l, two-sum, g .counts))
 
   machined : (i : ℕ) → i < chainCount → (l : List Node) → Fit i (machinesFor h i) l → Fit i (machinesFor (putTwo h j a n k b m) i) l
-  machined i s l = subst (λ c. Fit i c l) (sym (machines-beside h (putTwo h j a n k b m) two-beside i s))
+  machined i s l = subst (λ c. Fit i c l) (sym (machines-copied h (putTwo h j a n k b m) two-copied i s))
 
   chain-after : (i : ℕ) → i < chainCount → ChainOk (putTwo h j a n k b m) rs′ i
   chain-after i l = go (ℕ-discrete i k) (ℕ-discrete i j)
@@ -82,11 +85,11 @@ module _ (h rs rs′ : List ℕ) (j a n k b m : ℕ) (y x : List Node) (t : TwoC
   pub two-good : reserved h ≤ countOf (putTwo h j a n k b m) 0 → Good (putTwo h j a n k b m) rs′
   two-good fits =
       record {
-        limits = limits-beside h (putTwo h j a n k b m) two-beside (g .limits);
-        slots = slots-beside h (putTwo h j a n k b m) two-beside (g .slots);
+        limits = limits-copied h (putTwo h j a n k b m) two-copied (g .limits);
+        slots = slots-copied h (putTwo h j a n k b m) two-copied (g .slots);
         chains = chain-after;
         counts = sum-after;
-        reserve = reserve-state (putTwo h j a n k b m) rs′ sum-after (omega (arith, reserve-beside h (putTwo h j a n k b m) two-beside, counted 0 (omega arith)));
+        reserve = reserve-state (putTwo h j a n k b m) rs′ sum-after (omega (arith, reserve-copied h (putTwo h j a n k b m) two-copied, counted 0 (omega arith)));
       }
     where
       sum-after : countsTo (putTwo h j a n k b m) chainCount ≡ room rs′
