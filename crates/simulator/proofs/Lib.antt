@@ -13,6 +13,7 @@ pub mod ActionOutcomes
 pub mod PushOutcomes
 pub mod OpenNumbers
 pub mod OpenWords
+pub mod Packing
 pub mod Demand3
 pub mod StepRows
 pub mod StepOutcomes
