@@ -24,7 +24,8 @@ use Rattle.simulator.proofs.OneOutcome.{choice-not-done, same-answer, s
 -- calls included
 
 -- Each call is related to the next by its promise alone. A call that a later request adds joins by that promise (`Outcome`) and by its case of the
--- rules' law of a call (laws/CallKeeps, `call-keeps`).
+-- rules' law of a call (laws/CallKeeps, `call-keeps`); one that is lent a second block joins beside the state (`Reading`) by its own promise, as packing
+-- does (`Packs`): it leaves the state's words and makes no round.
 pub demand-3 : Demand3
 demand-3 w l h r = demand-of words-hold free-records w l h r
 
