@@ -162,34 +162,6 @@ alike-agree s t h = record {
   rounds = ap (λ z. z .rounds) h;
 }
 
-pub alike-room : (s t : State) → Alike s t → s .room ≡ t .room
-alike-room s t h = ap (λ z. z .room) h
-
-pub agree-refl : (s : State) → Agree s s
-agree-refl s = alike-agree s s refl
-
-pub agree-trans : (r s t : State) → Agree r s → Agree s t → Agree r t
-agree-trans r s t a b = record {
-  settings = a .settings ∙ b .settings;
-  client = sides (a .client) (b .client);
-  server = sides (a .server) (b .server);
-  aggregates = a .aggregates ∙ b .aggregates;
-  ended = a .ended ∙ b .ended;
-  rounds = a .rounds ∙ b .rounds;
-}
-  where
-    sides : {x y z : SideState} → SideAgrees x y → SideAgrees y z → SideAgrees x z
-    sides a b = record {
-      settings = a .settings ∙ b .settings;
-      timers = a .timers ∙ b .timers;
-      actions = a .actions ∙ b .actions;
-      sum = a .sum ∙ b .sum;
-      blockEnd = a .blockEnd ∙ b .blockEnd;
-      flag = a .flag ∙ b .flag;
-      events = λ c. a .events c ∙ b .events c;
-      stamps = a .stamps ∙ b .stamps;
-    }
-
 -- ---- packing
 
 pub packed-keeps : (s : State) → Agree (packed s) s

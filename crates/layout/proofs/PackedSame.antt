@@ -3,11 +3,9 @@ use Prim.Native.Nat.{ℕ, suc, _<_, _-_, _/_}
 use mathlib.Core.Path.{_≡_, sym, ap, subst, subst⁻¹, _∙_}
 use mathlib.Core.List.{List}
 use native.Mathlib.Decide.{ℕ-discrete}
-use lib.ListN.{length, getD, take, drop, length-drop}
+use lib.ListN.{length, getD, length-drop}
 use lib.Seq.{ext-getD}
-use Rattle.rules.specs.State.{State}
 use Rattle.rules.specs.Contents.{Agree}
-use Rattle.rules.specs.Packing.{packed}
 use Rattle.laws.specs.Packed.{agree-packed, packed-agrees, packed-keeps}
 use Rattle.layout.specs.Accepted.{Accepted}
 use Rattle.layout.specs.Layout.{stateFrom, stateOf}

@@ -2,10 +2,10 @@
 use Prim.Native.Nat.{ℕ}
 use mathlib.Core.Path.{_≡_, refl}
 use mathlib.Core.Bool.{true, false}
-use mathlib.Core.List.{List, [], _∷_, map}
+use mathlib.Core.List.{[], _∷_}
 use mathlib.Core.Option.{none}
 use Rattle.rules.specs.Basics.{NormalSent, PaddingRecv, Side, TimerEnd, TunnelSent, client, server}
-use Rattle.rules.specs.State.{Event, Fixed, Held, SideState, State, inRecord, side, withAggregates, withEnded, withFree, withQueues, withRounds, withSide, withStamps}
+use Rattle.rules.specs.State.{Event, Fixed, State, inRecord, side, withAggregates, withEnded, withFree, withQueues, withRounds, withSide, withStamps}
 use Rattle.rules.specs.NetworkStep.{packet}
 use Rattle.rules.specs.Opening.{opened, upFrom}
 use Rattle.rules.specs.Packing.{packed}
