@@ -17,7 +17,7 @@ use Rattle.layout.specs.Accepted.{Accepted}
 use Rattle.layout.specs.Layout.{stateOf}
 use Rattle.simulator.specs.Outcome.{Outcome, FreeRecords}
 use Rattle.simulator.specs.Packs.{Packs}
-use Rattle.simulator.specs.Demand.{Made, Runs, wordsAfter, Reading, pack, Entry, on, beside, Promised, leftBy, Goes, leftAfter, roundsBy, roundsIn, allowedTo, allowed, answerBy, Demand}
+use Rattle.simulator.specs.Demand.{Made, Runs, wordsAfter, pack, Entry, on, beside, Promised, leftBy, Goes, leftAfter, roundsBy, roundsIn, allowedTo, allowed, answerBy, Demand}
 
 -- ---- calls on the state alone are such a list
 
