@@ -49,14 +49,16 @@ up-within p (suc n) q (inr y) = let z = up-within (suc p) n q y in (omega (arith
 -- word i of the records, where it is the moment, the length or the tag of a record that is not used
 free-word : (c : ℕ → List Rec) (r i : ℕ) → usedIn c ≤ r → 0 < i % 4 → 4 * usedIn c ≤ i → i < 4 * r → getD (packedRecords c r) i 0 ≡ 0
 free-word c r i fits m a b =
-    ap (λ k. getD (packedRecords c r) k 0) place ∙ chain-stands c r fits 0 (omega arith) (i - 4 * usedIn c) inside
-    ∙ zeros-words (suc (usedIn c)) (r - usedIn c) (i - 4 * usedIn c) _ refl refl refl (omega arith)
+    ap (λ k. getD (packedRecords c r) k 0) place ∙ chain-stands c r fits 0 (omega arith) (i - 4 * usedIn c) inside ∙ nothing
   where
     place : i ≡ 4 * suc (usedIn c) - 4 + (i - 4 * usedIn c)
     place = omega arith
 
     inside : i - 4 * usedIn c < length (chainWords (suc (usedIn c)) (freeIn c r))
     inside = omega (arith, length-chain (suc (usedIn c)) (freeIn c r), length-free c r)
+
+    nothing : getD (chainWords (suc (usedIn c)) (freeIn c r)) (i - 4 * usedIn c) 0 ≡ 0
+    nothing = zeros-words (suc (usedIn c)) (r - usedIn c) (i - 4 * usedIn c) _ refl refl refl (omega arith)
 
 module _ (w : List ℕ) (a : Accepted w) where
   abbrev c : ℕ → List Rec

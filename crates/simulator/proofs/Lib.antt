@@ -20,4 +20,5 @@ pub mod StepOutcomes
 pub mod ChoiceNumbers
 pub mod ChoiceOutcomes
 pub mod OneOutcome
+pub mod SameAnswers
 pub mod Theorems
