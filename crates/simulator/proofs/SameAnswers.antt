@@ -8,12 +8,14 @@ use lib.ListN.{length}
 use Rattle.rules.specs.Choice.{Answer}
 use Rattle.rules.specs.Arguments.{Call}
 use Rattle.laws.specs.Unplaced.{unplacedState, Alike}
-use Rattle.laws.specs.Packed.{alike-agree}
+use Rattle.rules.specs.Contents.{Agree}
+use Rattle.laws.specs.Packed.{agree-alike, alike-agree}
 use Rattle.laws.specs.Theorems.{call-reads-only-values}
 use Rattle.layout.specs.Accepted.{Accepted}
 use Rattle.layout.specs.Layout.{stateOf}
 use Rattle.layout.specs.Packed.{packedWords}
-use Rattle.layout.proofs.Theorems.{packed-exactly}
+use Rattle.layout.proofs.PackedSame.{one-room}
+use Rattle.layout.proofs.Theorems.{packed-accepted, packed-exactly, packed-holds, packed-size}
 use Rattle.simulator.specs.Outcome.{Outcome}
 use Rattle.simulator.specs.Packs.{Packs}
 use Rattle.simulator.specs.Demand.{pack, Entry, on, beside, Promised, leftBy, Goes}
@@ -56,10 +58,20 @@ pub record Kin (w v : List ℕ) : Type 0 where
   pub size : length w ≡ length v
   pub state : Alike (stateOf w) (stateOf v)
 
+-- states that agree, in blocks of one length
+pub agree-kin : (w v : List ℕ) → Accepted w → Accepted v → length w ≡ length v → Agree (stateOf w) (stateOf v) → Kin w v
+agree-kin w v a b n g = record { one = a; other = b; size = n; state = agree-alike (stateOf w) (stateOf v) g (one-room w v n) }
+
+-- a state and its packed form
+pub packed-kin : (w : List ℕ) → Accepted w → Kin w (packedWords w)
+packed-kin w a =
+    let k = agree-kin (packedWords w) w (packed-accepted w a) a (packed-size w a) (packed-holds w a) in
+    record { one = a; other = k .one; size = sym (k .size); state = sym (k .state) }
+
 -- one on the state: the same answer, and words that are so again
-same-call :
+pub kin-call :
     (w v : List ℕ) (c : Call) (a b : Answer) (left right : List ℕ) → Kin w v → Outcome w c a left → Outcome v c b right → (a ≡ b) × Kin left right
-same-call w v c a b left right k o p =
+kin-call w v c a b left right k o p =
     let l = o .state (k .one) in
     let r = p .state (k .other) in
     let h = call-reads-only-values (stateOf w) (stateOf v) c (k .state) in (
@@ -94,7 +106,7 @@ same-entry :
     (w v : List ℕ) (x y : Entry) → Kin w v → Promised w x → Promised v y → askedBy x ≡ askedBy y → (backFrom x ≡ backFrom y) × Kin (leftBy w x) (leftBy v y)
 same-entry w v (on x) (on y) k o p e =
     let ec : x .call ≡ y .call = ap (callIn (x .call)) e in
-    let s = same-call w v (x .call) (x .answer) (y .answer) (x .left) (y .left) k o (subst⁻¹ (λ (c : Call). Outcome v c (y .answer) (y .left)) ec p) in
+    let s = kin-call w v (x .call) (x .answer) (y .answer) (x .left) (y .left) k o (subst⁻¹ (λ (c : Call). Outcome v c (y .answer) (y .left)) ec p) in
     (ap answer (s .0), s .1)
 same-entry w v (on x) (beside (pack n u) b) k o p e = let z : _≡_ {A = ℕ} 0 1 = ap besideIt e in absurd (omega (arith, z))
 same-entry w v (beside (pack n t) a) (on y) k o p e = let z : _≡_ {A = ℕ} 1 0 = ap besideIt e in absurd (omega (arith, z))

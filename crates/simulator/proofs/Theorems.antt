@@ -1,14 +1,13 @@
 -- What holds of the calls, for a reader: demand 3 over any list of calls, that the promise of a call leaves one outcome, and that states which hold the same
 -- answer the same. Assumes nothing.
 use Prim.Native.Nat.{ℕ}
-use mathlib.Core.Path.{_≡_, refl, sym}
+use mathlib.Core.Path.{_≡_, refl}
 use mathlib.Core.List.{List}
 use lib.ListN.{length}
 use Rattle.rules.specs.Arguments.{Call, pick-next}
 use Rattle.rules.specs.Choice.{Answer as RulesAnswer}
 use Rattle.rules.specs.Opening.{Opening}
 use Rattle.rules.specs.Contents.{Agree}
-use Rattle.laws.specs.Packed.{agree-alike}
 use Rattle.event.specs.Answers.{answerOf, choiceOf, stepOf}
 use Rattle.event.specs.declared.answer.Answer.{Answer}
 use Rattle.event.specs.declared.answer.Choice.{Choice}
@@ -18,8 +17,6 @@ use Rattle.layout.specs.Layout.{stateOf}
 use Rattle.layout.specs.Packed.{packedWords}
 use Rattle.event.proofs.Decoding.{answer-one, choice-one, step-one}
 use Rattle.layout.proofs.Holds.{words-hold}
-use Rattle.layout.proofs.PackedSame.{one-room}
-use Rattle.layout.proofs.Theorems.{packed-accepted, packed-holds, packed-size}
 use Rattle.simulator.specs.Alike.{Alike}
 use Rattle.simulator.specs.Demand.{Entry, Goes, Demand3}
 use Rattle.simulator.specs.Openings.{Opens}
@@ -29,7 +26,7 @@ use Rattle.simulator.specs.Same.{asked, answered}
 use Rattle.simulator.proofs.Frees.{free-records}
 use Rattle.simulator.proofs.Demand3.{demand-of}
 use Rattle.simulator.proofs.OneOutcome.{choice-not-done, same-answer, same-left, same-refusal, same-opening, same-packing}
-use Rattle.simulator.proofs.SameAnswers.{same-list}
+use Rattle.simulator.proofs.SameAnswers.{agree-kin, packed-kin, same-list}
 
 -- ---- demand 3: over any list of calls on lent words, of any length, in any order, with any arguments, from any accepted words, ended or not, refused
 -- calls included
@@ -92,10 +89,9 @@ one-packing w v a b left right h x y = let s = same-packing w v _ _ left right x
 pub same-answers :
     (w v : List ℕ) → Accepted w → Accepted v → length w ≡ length v → Agree (stateOf w) (stateOf v)
     → (l m : List Entry) → Goes w l → Goes v m → asked l ≡ asked m → answered l ≡ answered m
-same-answers w v a b n g l m =
-    same-list w v l m (record { one = a; other = b; size = n; state = agree-alike (stateOf w) (stateOf v) g (one-room w v n) })
+same-answers w v a b n g l m = same-list w v l m (agree-kin w v a b n g)
 
 -- "A packed state gives the same further answers as its original."
 pub packed-answers :
     (w : List ℕ) → Accepted w → (l m : List Entry) → Goes w l → Goes (packedWords w) m → asked l ≡ asked m → answered l ≡ answered m
-packed-answers w a l m g h e = sym (same-answers (packedWords w) w (packed-accepted w a) a (packed-size w a) (packed-holds w a) m l h g (sym e))
+packed-answers w a l m = same-list w (packedWords w) l m (packed-kin w a)
