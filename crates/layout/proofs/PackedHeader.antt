@@ -12,7 +12,7 @@ use Rattle.queue_event.specs.Chain.{Rec}
 use Rattle.layout.specs.Records.{chainCount, headOf, countOf}
 use Rattle.layout.specs.Spare.{spare, Spare}
 use Rattle.layout.specs.Opened.{table}
-use Rattle.layout.specs.Packed.{usedIn, packedRecords, packedHead, packedCount, packedWord, packedFrom}
+use Rattle.layout.specs.Packed.{usedIn, packedRecords, packedHead, packedCount, headerWord, packedWord, packedFrom}
 use Rattle.layout.proofs.Tables.{length-table, table-at}
 use Rattle.layout.proofs.Spares.{SpareAt, spare-at, spare-head}
 use Rattle.layout.proofs.ChainWords.{Copied}
@@ -48,20 +48,20 @@ module _ (f : ℕ → ℕ) (c : ℕ → List Rec) (r : ℕ) where
   -- ---- one word
 
   word-spare : (i : ℕ) → Spare i → packedWord f c r i ≡ 0
-  unfolding packedWord
+  unfolding headerWord
   word-spare i s = rw s refl
 
   word-copied : (i : ℕ) → Copied i → packedWord f c r i ≡ f i
-  unfolding packedWord
+  unfolding headerWord
   word-copied i (inl a) = rw (copied-meaning i (inl a), lt-leb 24 i (omega arith)) refl
   word-copied i (inr a) = rw (copied-meaning i (inr a), le-leb 24 i (omega (arith, a .0)), le-ltb i (24 + 2 * chainCount) (omega (arith, a .0))) refl
 
   word-head : (i k : ℕ) → 24 ≤ i → i < 24 + 2 * chainCount → i % 2 ≡ 0 → (i - 24) / 2 ≡ k → packedWord f c r i ≡ packedHead c r k
-  unfolding packedWord
+  unfolding headerWord
   word-head i k a b e q = rw (chain-meaning i a b, le-leb 24 i a, lt-ltb i (24 + 2 * chainCount) b, eq-eqb (i % 2) 0 e, q) refl
 
   word-count : (i k : ℕ) → 24 ≤ i → i < 24 + 2 * chainCount → (i % 2 ≡ 0 → ⊥) → (i - 24) / 2 ≡ k → packedWord f c r i ≡ packedCount c r k
-  unfolding packedWord
+  unfolding headerWord
   word-count i k a b e q = rw (chain-meaning i a b, le-leb 24 i a, lt-ltb i (24 + 2 * chainCount) b, ne-eqb (i % 2) 0 e, q) refl
 
   -- ---- the header

@@ -38,9 +38,13 @@ usedWords c (suc k) = usedWords c k ++ chainWords (suc (usedTo c k)) (c (suc k))
 abbrev pub usedIn : (ℕ → List Rec) → ℕ
 usedIn c = usedTo c (chainCount - 1)
 
--- "free records zeroed but for their links and chained upward": those of r that are not used, one more chain, of records of zeros
+-- n records of zeros
+abbrev pub zeroRecs : ℕ → List Rec
+zeroRecs n = replicate n (record { moment = 0; size = 0; tag = 0 })
+
+-- "free records zeroed but for their links and chained upward": those of r that are not used are one more chain
 abbrev pub freeIn : (ℕ → List Rec) → ℕ → List Rec
-freeIn c r = replicate (r - usedIn c) (record { moment = 0; size = 0; tag = 0 })
+freeIn c r = zeroRecs (r - usedIn c)
 
 -- ---- the words
 
@@ -65,12 +69,16 @@ packedHead c r k = firstOf (packedStart c k) (packedChain c r k)
 abbrev pub packedCount : (ℕ → List Rec) → ℕ → ℕ → ℕ
 packedCount c r k = length (packedChain c r k)
 
--- word i of the header, where f has the old ones: "Words without a meaning become 0", heads and counts are those of the packed chains, all else stays
-unfoldable pub packedWord : (ℕ → ℕ) → (ℕ → List Rec) → ℕ → ℕ → ℕ
-packedWord f c r i =
+-- word i of a header that has the words of f, with these heads and counts: "Words without a meaning become 0"
+unfoldable pub headerWord : (ℕ → ℕ) → (ℕ → ℕ) → (ℕ → ℕ) → ℕ → ℕ
+headerWord f heads counts i =
     if spare i
     then 0
-    else if leb 24 i && ltb i (24 + 2 * chainCount) then (if eqb (i % 2) 0 then packedHead c r ((i - 24) / 2) else packedCount c r ((i - 24) / 2)) else f i
+    else if leb 24 i && ltb i (24 + 2 * chainCount) then (if eqb (i % 2) 0 then heads ((i - 24) / 2) else counts ((i - 24) / 2)) else f i
+
+-- the same with those of the packed chains; all else stays
+abbrev pub packedWord : (ℕ → ℕ) → (ℕ → List Rec) → ℕ → ℕ → ℕ
+packedWord f c r = headerWord f (packedHead c r) (packedCount c r)
 
 -- a block of r records with these header words and these chains
 unfoldable pub packedFrom : (ℕ → ℕ) → (ℕ → List Rec) → ℕ → List ℕ

@@ -13,8 +13,9 @@ use borrow.Author.Tests.{lt-ltb, le-ltb, le-leb, lt-leb, eq-eqb, ne-eqb}
 use Rattle.layout.specs.Records.{headOf, countOf}
 use Rattle.layout.specs.Spare.{spare}
 use Rattle.layout.specs.Opened.{table}
+use Rattle.layout.specs.Packed.{headerWord}
 use Rattle.layout.proofs.Tables.{length-table, table-at}
-use Rattle.packing.specs.Heads.{sumTo, firstFor, startOf, headerWord, Reads, Starts, HeaderTo}
+use Rattle.packing.specs.Heads.{sumTo, firstFor, startOf, headerFrom, Reads, Starts, HeaderTo}
 
 -- ---- the words without a meaning, by their bounds
 
@@ -45,23 +46,23 @@ spare-end i a = rw (le-leb 18 i (omega arith), le-ltb i 24 (omega arith), le-leb
 -- ---- a word of the header
 
 module _ (h heads counts : List ℕ) (i : ℕ) where
-  pub word-spare : (b : Bool) → b ≡ spare i → b ≡ true → 0 ≡ headerWord h heads counts i
+  pub word-spare : (b : Bool) → b ≡ spare i → b ≡ true → 0 ≡ headerFrom h heads counts i
   unfolding headerWord
   word-spare b e t = rw (sym e ∙ t) refl
 
-  pub word-before : (b : Bool) → b ≡ spare i → b ≡ false → i < 24 → getD h i 0 ≡ headerWord h heads counts i
+  pub word-before : (b : Bool) → b ≡ spare i → b ≡ false → i < 24 → getD h i 0 ≡ headerFrom h heads counts i
   unfolding headerWord
   word-before b e t l = rw (sym e ∙ t, lt-leb 24 i l) refl
 
-  pub word-after : (b : Bool) → b ≡ spare i → b ≡ false → 48 ≤ i → getD h i 0 ≡ headerWord h heads counts i
+  pub word-after : (b : Bool) → b ≡ spare i → b ≡ false → 48 ≤ i → getD h i 0 ≡ headerFrom h heads counts i
   unfolding headerWord
   word-after b e t l = rw (sym e ∙ t, le-leb 24 i (omega arith), le-ltb i 48 l) refl
 
-  pub word-head : (b : Bool) → b ≡ spare i → b ≡ false → 24 ≤ i → i < 48 → i % 2 ≡ 0 → getD heads ((i - 24) / 2) 0 ≡ headerWord h heads counts i
+  pub word-head : (b : Bool) → b ≡ spare i → b ≡ false → 24 ≤ i → i < 48 → i % 2 ≡ 0 → getD heads ((i - 24) / 2) 0 ≡ headerFrom h heads counts i
   unfolding headerWord
   word-head b e t l m z = rw (sym e ∙ t, le-leb 24 i l, lt-ltb i 48 m, eq-eqb (i % 2) 0 z) refl
 
-  pub word-count : (b : Bool) → b ≡ spare i → b ≡ false → 24 ≤ i → i < 48 → (i % 2 ≡ 0 → ⊥) → getD counts ((i - 24) / 2) 0 ≡ headerWord h heads counts i
+  pub word-count : (b : Bool) → b ≡ spare i → b ≡ false → 24 ≤ i → i < 48 → (i % 2 ≡ 0 → ⊥) → getD counts ((i - 24) / 2) 0 ≡ headerFrom h heads counts i
   unfolding headerWord
   word-count b e t l m z = rw (sym e ∙ t, le-leb 24 i l, lt-ltb i 48 m, ne-eqb (i % 2) 0 z) refl
 
@@ -114,16 +115,16 @@ module _ (h heads counts out₀ : List ℕ) where
   header-none = record { most = omega arith; len = refl; words = λ j q. absurd (omega arith) }
 
   pub header-turn :
-      (out : List ℕ) (i v : ℕ) → 256 ≤ length out₀ → i < 256 → v ≡ headerWord h heads counts i → HeaderTo h heads counts out₀ out i
+      (out : List ℕ) (i v : ℕ) → 256 ≤ length out₀ → i < 256 → v ≡ headerFrom h heads counts i → HeaderTo h heads counts out₀ out i
       → HeaderTo h heads counts out₀ (set out i v) (i + 1)
   header-turn out i v b l e c = record {
     most = omega arith;
     len = length-set out i v ∙ c .len;
-    words = one-more (headerWord h heads counts) out i v (omega (arith, c .len)) e (c .words);
+    words = one-more (headerFrom h heads counts) out i v (omega (arith, c .len)) e (c .words);
   }
 
-  pub header-all : (out : List ℕ) (i : ℕ) → 256 ≤ length out₀ → 256 ≤ i → HeaderTo h heads counts out₀ out i → take 256 out ≡ table 256 (headerWord h heads counts)
-  header-all out i b l c = all-words (headerWord h heads counts) out 256 (omega (arith, c .len)) (λ j q. c .words j (omega arith))
+  pub header-all : (out : List ℕ) (i : ℕ) → 256 ≤ length out₀ → 256 ≤ i → HeaderTo h heads counts out₀ out i → take 256 out ≡ table 256 (headerFrom h heads counts)
+  header-all out i b l c = all-words (headerFrom h heads counts) out 256 (omega (arith, c .len)) (λ j q. c .words j (omega arith))
 
 -- ---- heads
 

@@ -15,13 +15,13 @@ use Rattle.layout.specs.Records.{headOf, countOf}
 use Rattle.layout.specs.Accepted.{room, Accepted}
 use Rattle.layout.specs.Spare.{spare}
 use Rattle.layout.specs.Opened.{table}
-use Rattle.layout.specs.Packed.{firstOf, chainWords, usedTo, usedWords, usedIn, freeIn, packedRecords, packedHead, packedCount, packedWord, packedFrom, packedWords, chainRecs}
+use Rattle.layout.specs.Packed.{firstOf, chainWords, usedTo, usedWords, usedIn, freeIn, packedRecords, packedHead, packedCount, packedWord, packedFrom, packedWords, chainRecs, headerWord}
 use Rattle.layout.proofs.Deciding.{false-true}
 use Rattle.layout.proofs.Parts.{rest-part}
 use Rattle.layout.proofs.PackedChains.{length-contents}
 use Rattle.layout.proofs.PackedBack.{length-free}
 use Rattle.layout.proofs.PackedGood.{used-all}
-use Rattle.packing.specs.Heads.{sumTo, firstFor, startOf, headerWord}
+use Rattle.packing.specs.Heads.{sumTo, firstFor, startOf, headerFrom}
 use Rattle.packing.specs.Writing.{chainsOf, Rows}
 use Rattle.packing.proofs.Copied.{chain-row}
 use Rattle.packing.proofs.Headers.{first-none, first-some}
@@ -77,8 +77,8 @@ chain-word i e = go (leb 24 i) refl (ltb i 48) refl e
 module _
     (w starts counts : List ℕ) (c : ℕ → List Rec) (r : ℕ) (heads-are : (k : ℕ) → k < 12 → getD starts k 0 ≡ packedHead c r k)
     (counts-are : (k : ℕ) → k < 12 → getD counts k 0 ≡ packedCount c r k) where
-  header-same : (i : ℕ) → i < 256 → headerWord (take 256 w) starts counts i ≡ packedWord (λ (i : ℕ). getD w i 0) c r i
-  unfolding headerWord packedWord
+  header-same : (i : ℕ) → i < 256 → headerFrom (take 256 w) starts counts i ≡ packedWord (λ (i : ℕ). getD w i 0) c r i
+  unfolding headerWord
   header-same i l = go (spare i) (leb 24 i && ltb i 48) refl (eqb (i % 2) 0)
     where
       go :
@@ -153,13 +153,13 @@ module _
   counts-are (suc k) l = counted (suc k) l
 
   pub pack-whole :
-      (starts out ys : List ℕ) → length out ≡ length w → ((k : ℕ) → k < 12 → getD starts k 0 ≡ startOf counts k) → take 256 out ≡ table 256 (headerWord h starts counts)
+      (starts out ys : List ℕ) → length out ≡ length w → ((k : ℕ) → k < 12 → getD starts k 0 ≡ startOf counts k) → take 256 out ≡ table 256 (headerFrom h starts counts)
       → ys ≡ packedRecords (chainsOf rest heads counts) (length (take (length out - 256) (drop 256 out)) / 4) → putMid 256 (length out - 256) out ys ≡ packedWords w
   unfolding packedWords packedFrom
   pack-whole starts out ys e es et er =
       back-is out ys
       ∙ ap₂ (λ (x y : List ℕ). x ++ y)
-      (et ∙ table-same 256 (headerWord h starts counts) (packedWord (λ (i : ℕ). getD w i 0) c (room rs)) (header-same w starts counts c (room rs) (starts-are starts es) counts-are))
+      (et ∙ table-same 256 (headerFrom h starts counts) (packedWord (λ (i : ℕ). getD w i 0) c (room rs)) (header-same w starts counts c (room rs) (starts-are starts es) counts-are))
       (er ∙ records-same (chainsOf rest heads counts) c (length (take (length out - 256) (drop 256 out)) / 4) (λ k l. same (suc k) (omega arith)) ∙ ap (packedRecords c) long)
     where
       long : length (take (length out - 256) (drop 256 out)) / 4 ≡ room rs

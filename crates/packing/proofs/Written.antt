@@ -10,10 +10,10 @@ use lib.Seq.{take-all}
 use borrow.Author.Tests.{ne-eqb}
 use Rattle.queue_event.specs.Words.{filled, In}
 use Rattle.queue_event.specs.Chain.{Rec, contents}
-use Rattle.layout.specs.Packed.{firstOf, chainWords, usedTo, usedWords, packedRecords}
+use Rattle.layout.specs.Packed.{firstOf, chainWords, usedTo, usedWords, packedRecords, zeroRecs}
 use Rattle.layout.proofs.PackedChains.{used-next, used-least, words-next, length-contents}
 use Rattle.packing.specs.Copying.{Row, linkOf}
-use Rattle.packing.specs.Writing.{chainsOf, Rows, zeroRecs, Writes, Zeroes}
+use Rattle.packing.specs.Writing.{chainsOf, Rows, Writes, Zeroes}
 use Rattle.packing.proofs.Copied.{take-filled, length-filled}
 
 -- ---- the chains

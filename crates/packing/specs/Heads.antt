@@ -1,13 +1,12 @@
 -- The header of a packed state, by the counts of its chains. Assumes nothing.
-use Prim.Native.Nat.{ℕ, zero, suc, _+_, _-_, _*_, _/_, _%_, _≤_, _<_}
+use Prim.Native.Nat.{ℕ, zero, suc, _+_, _-_, _≤_, _<_}
 use mathlib.Core.Path.{_≡_}
-use mathlib.Core.Bool.{_&&_}
 use mathlib.Core.List.{List}
-use lib.Dec.{eqb, leb, ltb}
+use lib.Dec.{eqb}
 use lib.ListN.{length, getD}
 use Rattle.rules.specs.Basics.{if_then_else_}
 use Rattle.layout.specs.Records.{chainCount, headOf, countOf}
-use Rattle.layout.specs.Spare.{spare}
+use Rattle.layout.specs.Packed.{headerWord}
 
 -- the records of chains 1 to k, from the counts of all
 unfoldable pub sumTo : List ℕ → ℕ → ℕ
@@ -23,12 +22,9 @@ abbrev pub startOf : List ℕ → ℕ → ℕ
 startOf counts zero = firstFor (suc (sumTo counts (chainCount - 1))) (getD counts 0 0)
 startOf counts (suc k) = firstFor (suc (sumTo counts k)) (getD counts (suc k) 0)
 
--- word i of the header h, with these heads and counts: words without a meaning become 0
-unfoldable pub headerWord : List ℕ → List ℕ → List ℕ → ℕ → ℕ
-headerWord h heads counts i =
-    if spare i
-    then 0
-    else if leb 24 i && ltb i (24 + 2 * chainCount) then (if eqb (i % 2) 0 then getD heads ((i - 24) / 2) 0 else getD counts ((i - 24) / 2) 0) else getD h i 0
+-- word i of the header h, with these heads and counts
+abbrev pub headerFrom : List ℕ → List ℕ → List ℕ → ℕ → ℕ
+headerFrom h heads counts = headerWord (λ (i : ℕ). getD h i 0) (λ (k : ℕ). getD heads k 0) (λ (k : ℕ). getD counts k 0)
 
 -- ---- what holds while the words are written
 
@@ -51,4 +47,4 @@ pub record Starts (counts starts : List ℕ) (d place : ℕ) : Type 0 where
 pub record HeaderTo (h heads counts out₀ out : List ℕ) (i : ℕ) : Type 0 where
   pub most : i ≤ 256
   pub len : length out ≡ length out₀
-  pub words : (j : ℕ) → j < i → getD out j 0 ≡ headerWord h heads counts j
+  pub words : (j : ℕ) → j < i → getD out j 0 ≡ headerFrom h heads counts j

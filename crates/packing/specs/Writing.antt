@@ -2,9 +2,9 @@
 use Prim.Native.Nat.{ℕ, suc, _+_, _-_, _*_, _≤_, _<_}
 use mathlib.Core.Path.{_≡_}
 use mathlib.Core.List.{List, _++_}
-use lib.ListN.{length, getD, replicate, take}
+use lib.ListN.{length, getD, take}
 use Rattle.queue_event.specs.Chain.{Rec, contents}
-use Rattle.layout.specs.Packed.{chainWords, usedTo, usedWords}
+use Rattle.layout.specs.Packed.{chainWords, usedTo, usedWords, zeroRecs}
 use Rattle.packing.specs.Copying.{Row}
 
 -- what stands in chain k, where these are the heads and counts
@@ -14,10 +14,6 @@ chainsOf rest heads counts k = contents rest (getD counts k 0) (getD heads k 0)
 -- of each of the chains 1 to 11, its count of records is linked from its head
 abbrev pub Rows : List ℕ → List ℕ → List ℕ → Type 0
 Rows rest heads counts = (k : ℕ) → 1 ≤ k → k < 12 → Row rest (getD counts k 0) (getD heads k 0)
-
--- n records of zeros
-abbrev pub zeroRecs : ℕ → List Rec
-zeroRecs n = replicate n (record { moment = 0; size = 0; tag = 0 })
 
 -- of write_chains: d chains are written, and the next record is place
 pub record Writes (c : ℕ → List Rec) (out₀ out : List ℕ) (d place : ℕ) : Type 0 where

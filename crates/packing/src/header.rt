@@ -5,7 +5,7 @@ ghost use lib.ListN.{length, getD, take};
 ghost use Rattle.layout.specs.Records.{headOf, countOf};
 ghost use Rattle.layout.specs.Opened.{table};
 ghost use Rattle.layout.specs.Spare.{spare as spareAt};
-ghost use Rattle.packing.specs.Heads.{sumTo, firstFor, startOf, headerWord};
+ghost use Rattle.packing.specs.Heads.{sumTo, firstFor, startOf, headerFrom};
 
 // Whether word i of the header has no meaning.
 fn spare(i: usize) -> bool
@@ -72,7 +72,7 @@ pub fn start_chains(counts: &[u64; 12], starts: &mut [u64; 12])
 // Word i of a header, with these heads and counts in the place of its own.
 fn header_word(head: &[u64], starts: &[u64; 12], counts: &[u64; 12], i: usize) -> u64
     requires { ⌜ (length (now head) ≡ 256) × (i < 256) ⌝ }
-    ensures { λ r. ⌜ r ≡ headerWord (now (head .entry)) (now (starts .entry)) (now (counts .entry)) i ⌝ }
+    ensures { λ r. ⌜ r ≡ headerFrom (now (head .entry)) (now (starts .entry)) (now (counts .entry)) i ⌝ }
 {
     if spare(i) {
         return 0;
@@ -93,7 +93,7 @@ fn header_word(head: &[u64], starts: &[u64; 12], counts: &[u64; 12], i: usize) -
 // The header of out, whatever it held: that of head, with these heads and counts.
 pub fn write_header(head: &[u64], starts: &[u64; 12], counts: &[u64; 12], out: &mut [u64])
     requires { ⌜ (length (now head) ≡ 256) × (256 ≤ length (now out)) ⌝ }
-    ensures { λ _. ⌜ take 256 (now (out .exit)) ≡ table 256 (headerWord (now (head .entry)) (now (starts .entry)) (now (counts .entry))) ⌝ }
+    ensures { λ _. ⌜ take 256 (now (out .exit)) ≡ table 256 (headerFrom (now (head .entry)) (now (starts .entry)) (now (counts .entry))) ⌝ }
 {
     let mut i = 0;
     while i < 256 {

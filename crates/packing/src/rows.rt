@@ -3,8 +3,8 @@ ghost use mathlib.Core.Path.{_≡_};
 ghost use mathlib.Core.List.{_++_};
 ghost use Prim.Native.Nat.{suc, _+_, _-_, _*_, _/_, _≤_};
 ghost use lib.ListN.{length, getD, take};
-ghost use Rattle.layout.specs.Packed.{chainWords, usedTo, usedWords, packedRecords};
-ghost use Rattle.packing.specs.Writing.{chainsOf, Rows, zeroRecs};
+ghost use Rattle.layout.specs.Packed.{chainWords, usedTo, usedWords, zeroRecs, packedRecords};
+ghost use Rattle.packing.specs.Writing.{chainsOf, Rows};
 use crate::chain;
 use queue_event::words;
 

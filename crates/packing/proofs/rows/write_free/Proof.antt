@@ -5,8 +5,8 @@ use mathlib.Core.List.{_++_}
 use native.Mathlib.Omega.{arith}
 use lib.ListN.{take}
 use borrow.Author.Needs.{needs}
-use Rattle.layout.specs.Packed.{chainWords}
-use Rattle.packing.specs.Writing.{zeroRecs, Zeroes}
+use Rattle.layout.specs.Packed.{chainWords, zeroRecs}
+use Rattle.packing.specs.Writing.{Zeroes}
 use Rattle.packing.proofs.Written.{free-in, free-end, free-turn}
 use Rattle.packing.proofs.rows.write_free.Statement.{statement}
 use Rattle.packing.proofs.rows.write_free.Tie as tie
