@@ -1,6 +1,7 @@
--- What is proved of the rules, each theorem in document 01's words, with the law that proves it. The words are those of the crate rules; of this
--- crate's own: `Accepted` (a state that calls may get), `Once` (each record from 1 to R stands once), `times` (how often a record stands),
--- `stateAfter` (the state after a round), `recordsTaken` (the free records that a round takes), `Alike` (different in record numbers alone).
+-- What is proved of the rules, each theorem in document 01's words (of packing, document 02's), with the law that proves it. The words are those of
+-- the crate rules; of this crate's own: `Accepted` (a state that calls may get), `Once` (each record from 1 to R stands once), `times` (how often a
+-- record stands), `stateAfter` (the state after a round), `recordsTaken` (the free records that a round takes), `Alike` (different in record numbers
+-- alone).
 use Prim.Native.Nat.{ℕ, _+_, _≤_, _<_, suc}
 use mathlib.Core.Path.{_≡_, _∙_}
 use mathlib.Core.Logic.{_⊎_}
@@ -16,8 +17,11 @@ use Rattle.rules.specs.CallLists.{afterAll, answers, carried, finishedStates, i
 use Rattle.rules.specs.Calls.{call, leaves}
 use Rattle.rules.specs.ChoiceRound.{candidate, next, round, fits, roundSums}
 use Rattle.rules.specs.Choice.{choose, refused, rounds}
+use Rattle.rules.specs.Contents.{Agree}
+use Rattle.rules.specs.Packing.{packed}
 use Rattle.laws.specs.Accepted.{Accepted, only, times}
 use Rattle.laws.specs.Unplaced.{Alike}
+use Rattle.laws.specs.Packed.{packed-keeps, packed-alike, agree-packed, packed-agrees, packed-packed}
 use Rattle.laws.specs.Ended.{below-ten, call-marks, step-ten, ten-ends, ten-works, choice-numbers, ended-refuses}
 use Rattle.laws.specs.AcceptedKept.{call-accepted}
 use Rattle.laws.specs.Rounds.{call-carries, choice-has-room, choice-ten, enough-states}
@@ -142,3 +146,22 @@ opening-leaves-accepted o words h = opened-accepted o words h
 -- The same of any list of calls: equal answers, and states that differ in record numbers alone.
 pub list-reads-only-values : (l : List Call) (s t : State) → Alike s t → (answers s l ≡ answers t l) × Alike (afterAll s l) (afterAll t l)
 list-reads-only-values l s t h = list-reads-values l s t h
+
+-- ---- packing (document 02, M-100)
+
+-- The packed form holds what the state holds.
+pub packing-keeps-contents : (s : State) → Agree (packed s) s
+packing-keeps-contents s = packed-keeps s
+
+-- "Two states in blocks of one length", so with one R, "have equal packed" forms "exactly when their settings, slots, sums, block ends and flags, chain
+-- contents, ended marks and round totals agree".
+pub packed-equal-exactly-when : (s t : State) → s .room ≡ t .room → (packed s ≡ packed t → Agree s t) × (Agree s t → packed s ≡ packed t)
+packed-equal-exactly-when s t r = (packed-agrees s t, λ a. agree-packed s t a r)
+
+-- "Packing twice changes nothing."
+pub packing-twice-changes-nothing : (s : State) → packed (packed s) ≡ packed s
+packing-twice-changes-nothing s = packed-packed s
+
+-- "A packed state gives the same further answers as its original."
+pub packed-state-answers-the-same : (l : List Call) (s : State) → answers (packed s) l ≡ answers s l
+packed-state-answers-the-same l s = list-reads-values l (packed s) s (packed-alike s) .0

@@ -20,3 +20,4 @@ pub mod CaseStates
 pub mod Cases
 pub mod Edges
 pub mod TableCases
+pub mod PackingCases

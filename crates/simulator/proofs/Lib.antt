@@ -13,10 +13,12 @@ pub mod ActionOutcomes
 pub mod PushOutcomes
 pub mod OpenNumbers
 pub mod OpenWords
+pub mod Packing
 pub mod Demand3
 pub mod StepRows
 pub mod StepOutcomes
 pub mod ChoiceNumbers
 pub mod ChoiceOutcomes
 pub mod OneOutcome
+pub mod SameAnswers
 pub mod Theorems

@@ -21,6 +21,7 @@ use Rattle.layout.specs.Layout.{stateOf}
 use Rattle.layout.proofs.Theorems.{fixed}
 use Rattle.simulator.specs.Outcome.{Outcome}
 use Rattle.simulator.specs.Openings.{Opens}
+use Rattle.simulator.specs.Packs.{Packs}
 use Rattle.simulator.specs.Alike.{Alike}
 
 -- ---- no choice answers `done`
@@ -118,3 +119,19 @@ same-opening w o a b left right x y = go (openRefusal (length w) o) refl
     go : (r : Option ℕ) → openRefusal (length w) o ≡ r → (a ≡ b) × (left ≡ right)
     go none e = (x .opens e .0 ∙ sym (y .opens e .0), x .opens e .1 ∙ sym (y .opens e .1))
     go (some n) e = (x .refuses n e .0 ∙ sym (y .refuses n e .0), x .refuses n e .1 ∙ sym (y .refuses n e .1))
+
+-- ---- packing
+
+module _ (w v : List ℕ) (a b : Answer) (left right : List ℕ) (x : Packs w v a left) (y : Packs w v b right) where
+  pub same-packing : Dec (Accepted w) → (a ≡ b) × (left ≡ right)
+  same-packing h = go (size-decided (length w)) (ℕ-discrete (length v) (length w)) h
+    where
+      -- both say the same of it
+      join : (c : Answer) (z : List ℕ) → (a ≡ c) × (left ≡ z) → (b ≡ c) × (right ≡ z) → (a ≡ b) × (left ≡ right)
+      join c z m n = (m .0 ∙ sym (n .0), m .1 ∙ sym (n .1))
+
+      go : Dec (SizeOk (length w)) → Dec (length v ≡ length w) → Dec (Accepted w) → (a ≡ b) × (left ≡ right)
+      go (no d) e h = join _ _ (x .wrong-length d) (y .wrong-length d)
+      go (yes s) (no d) h = join _ _ (x .other-length s d) (y .other-length s d)
+      go (yes s) (yes e) (no h) = join _ _ (x .bad s e h) (y .bad s e h)
+      go (yes s) (yes e) (yes h) = join _ _ (x .packs h e) (y .packs h e)
