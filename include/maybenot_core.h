@@ -15,7 +15,7 @@
  *   - Its words are in the machine's byte order. A block may be saved, copied or moved as it is and gone on with, but
  *     not on a machine with another byte order. docs/LAYOUT.md says what each word holds.
  *   - No heap is used, nothing is read or written but what a call is lent: the block, `out`, the rows and answers of a
- *     list. Of the C library only memset is called.
+ *     list, the second block of packing. Of the C library only memset is called.
  *   - Stack: see MAYBENOT_CORE_STACK_BYTES below.
  *   - Time: every call tests or writes the whole block, so its time grows with R. Take no more records than you need, and
  *     make many calls as one list: maybenot_core_calls tests the block once for all of them.
@@ -91,7 +91,7 @@ enum {
 /* Numbers of a refusal, in the order in which they are tested. */
 enum {
     MAYBENOT_CORE_OK = 0,
-    MAYBENOT_CORE_REFUSED_LENGTH = 1,   /* the length is not 256 + 4R words, R from 1 to 65,535 */
+    MAYBENOT_CORE_REFUSED_LENGTH = 1,   /* the length is not 256 + 4R words, R from 1 to 65,535, or a second block has another */
     MAYBENOT_CORE_REFUSED_STATE = 2,    /* the words are no accepted state (not at opening) */
     MAYBENOT_CORE_REFUSED_ENDED = 3,    /* the state is marked ended: only opening goes on from here */
     MAYBENOT_CORE_REFUSED_OPENING = 4,  /* an opening value is outside its limits */
@@ -232,6 +232,26 @@ uint64_t maybenot_core_sim_network_stack(uint64_t *block, size_t words, uint64_t
                                          uint64_t kind, uint64_t moment, uint64_t delay, uint64_t side,
                                          uint64_t padding, uint64_t bypass, uint64_t replace, uint64_t machine,
                                          uint64_t *out, size_t out_words);
+
+/* ---- the packed form */
+
+/*
+ * Packs a state: writes its packed form to every word of a second block of the same length. The state itself is only read.
+ * Refuses with 1 (the first's length, then a second of another length) and 2; an ended state packs too.
+ *
+ *   block          the state; others may read it during the call
+ *   second         a second block of the caller, aligned to 8 bytes, not NULL, apart from the first; what it held is ignored
+ *   second_words   the same number as `words`
+ *
+ * Two states in blocks of one length have equal packed words (memcmp) exactly when they hold the same forecast: settings,
+ * actions and timers, sums, block ends and flags, what stands in each chain and in which order, ended marks and round totals.
+ * Which records hold it, and what free records and words without a meaning hold, makes no difference.
+ *
+ * The packed words are a state: later calls answer on them as on the original. Packing them gives them again. Chains stand in
+ * the order of their numbers (docs/LAYOUT.md), their records numbered upward from 1, the free records after them; these are 0
+ * but for their links, and so are words without a meaning. A refusal leaves the second block as it was, word for word.
+ */
+uint64_t maybenot_core_pack(const uint64_t *block, size_t words, uint64_t *second, size_t second_words);
 
 /* ---- a list of calls */
 

@@ -69,6 +69,7 @@ def not_taken(*words):
 def text():
     note("==== By hand from docs/CALLS.md: the text")
     say("pick_next 0", "refused 2 0")
+    say("pack", "refused 2 0")
     ok("lend 0260", "open\t0 - -  0 0 0 0   0 00016 1  ", "  push 1 5 0 c 0 0 0 0\r")
     calls.extend(["", "   ", "\r", "#", "#push 9", "  # a comment after spaces", "\t#x\r"])
     say("pick_next 0000000000000000000000000000000000000000000000000000005", "event 1 5 0 c 0 0 0 0 rounds 1")
@@ -594,6 +595,127 @@ def known():
     say("show", state(1, 8, settings))
 
 
+def block(n, words):
+    """n words, of which these are not 0, as `words` and `words_second` list them."""
+    return "\n".join(str(words.get(i, 0)) for i in range(n)) + "\nend"
+
+
+# a record of each chain but the free one, by docs/LAYOUT.md: length and tag; the moment is 100 and the chain's number
+HELD = {1: (3, 1 + 16 * 1 + 256), 2: (4, 2), 3: (5, 3 + 512), 4: (6, 4 + 16 * 6 + 4096), 5: (0, 5),
+        6: (3, 6 + 16 * 1), 7: (4, 7 + 256), 8: (5, 8 + 512 + 1024), 9: (6, 9 + 16 * 9), 10: (0, 10), 11: (7, 11 + 2048)}
+
+
+def held(record, next_one, chain, moment):
+    at = 256 + 4 * (record - 1)
+    return {at: next_one, at + 1: moment, at + 2: HELD[chain][0], at + 3: HELD[chain][1]}
+
+
+def packing():
+    """The second block: what packing writes, what refuses, and what the lines about it leave."""
+    settings = "0 - - 10 0 0 0 0 1 1"
+    one, other = "push 9 50 0 s 0 0 0 0", "push 1 100 0 c 0 0 0 0"
+    header = {3: 10, 8: 1, 9: 1}
+    packed = {**header, 24: 3, 25: 1, 26: 1, 27: 1, 42: 2, 43: 1, 257: 100, 259: 17, 261: 50, 263: 153}
+    choices = [("pick_next 0", "event 9 50 0 s 0 0 0 0 rounds 1"), ("pick_next 50", "event 1 100 0 c 0 0 0 0 rounds 1"), ("pick_next 100", "nothing rounds 1")]
+
+    def packs(words=packed, n=268):
+        ok("pack")
+        say("words_second", block(n, words))
+
+    note("==== By hand from document 02, M-100: packing. Two events pushed in one order, then in the other: the same packed words")
+    ok("lend 268", "lend_second 268", "open " + settings, one, other)
+    packs()
+    note("The first block is as it was: the events stand in the order in which they were pushed")
+    say("words", block(268, {**header, 24: 3, 25: 1, 26: 2, 27: 1, 42: 1, 43: 1, 257: 50, 259: 153, 261: 100, 263: 17}))
+    ok("word_second 0 7", "word_second 258 7", f"word_second 267 {MAX}", "open " + settings, other, one)
+    packs()
+    note("Words without a meaning, and what a free record holds beside its link, change nothing")
+    ok(*(f"word {i} 7" for i in (18, 23, 48, 49, 63, 192, 223, 255)), "word 265 7", f"word 266 {MAX}", "word 267 16")
+    packs()
+    note("Packed twice: the same words. Both blocks give the same answers")
+    ok("take_second")
+    packs()
+    ok("open " + settings, one, other, "pack")
+    for call, answer in choices:
+        say(call, answer)
+    ok("take_second")
+    for call, answer in choices:
+        say(call, answer)
+    note("An ended state packs, and its mark and round total are kept; the other calls refuse it with 3, from the packed words too")
+    ok("open " + settings, one, other, "word 16 1", "word 17 5")
+    packs({**packed, 16: 1, 17: 5})
+    refused(3, *EVERY)
+    ok("take_second")
+    refused(3, *EVERY)
+    ok("word 16 0", "word 17 0")
+    note("1: the length of the first, whatever the second has; then a second of another length, also where the words are not accepted; then 2. None writes")
+    ok("pack")
+    for n in (0, 4, 256, 260, 264, 267, 269, 272, 8192):
+        ok(f"lend_second {n}")
+        refused(1, "pack")
+    ok("lend_second 264", "word 25 9")
+    refused(1, "pack")
+    ok("lend_second 268")
+    refused(2, "pack")
+    for n in (0, 256, 267, 269):
+        ok(f"lend {n}", f"lend_second {n}")
+        refused(1, "pack")
+        ok("lend_second 268")
+        refused(1, "pack")
+    say("words_second", block(268, packed))
+    note("Words after those lent stay, of the second block as of the first")
+    ok("lend 268", "lend_second 268", "word 25 1", "word_second 268 9", "word_second 8191 9", "pack", "lend_second 272")
+    say("words_second", block(272, {**packed, 268: 9}))
+    note("A full block has no free record: words 24 and 25 are 0. An empty one is as opened")
+    ok("lend_second 268", "push 9 50 0 s 0 0 0 0")
+    packs({**header, 26: 1, 27: 1, 42: 2, 43: 2, 257: 100, 259: 17, 260: 3, 261: 50, 263: 153, 265: 50, 267: 153})
+    ok("open " + settings)
+    packs({**header, 24: 1, 25: 3, 256: 2, 260: 3})
+    note("Every chain, the highest number in the lowest records: packed they stand by number, two records of the last chain by its links")
+    ok("lend 308", "lend_second 308", "open 1 2 3 4 5 6 7 8 2 3")
+    first = {24: 1, 25: 1, 46: 3, 47: 2, **held(3, 2, 11, 111), **held(2, 0, 11, 112), 256: 0}
+    second = {24: 13, 25: 1, 46: 11, 47: 2, **held(11, 12, 11, 111), **held(12, 0, 11, 112)}
+    for k in range(1, 11):
+        first.update({24 + 2 * k: 14 - k, 25 + 2 * k: 1, **held(14 - k, 0, k, 100 + k)})
+        second.update({24 + 2 * k: k, 25 + 2 * k: 1, **held(k, 0, k, 100 + k)})
+    fixed = {i: i + 1 for i in range(8)} | {8: 2, 9: 3, 10: 21, 11: 22, 15: 1, 17: 9}
+    ok(*(f"word {i} {v}" for i, v in sorted({**first, 10: 21, 11: 22, 15: 1, 17: 9}.items())))
+    packs({**fixed, **second}, 308)
+    note("`take_second` copies every word, and lends as many: fewer, more, and a length that is none. Nothing is known of the words any more")
+    ok("lend 268", "lend_second 268", "open " + settings, one, other, "pack", "set_timer c 0 9", "word_second 268 9", *(f"word_second {i} 0" for i in (269, 270, 271)))
+    for n, number in ((264, 2), (272, 2), (8192, 2), (267, 1), (0, 1)):
+        ok("set_timer c 0 9", f"lend_second {n}", "take_second")
+        refused(number, *EVERY)
+        ok("lend_second 268", "take_second")
+    ok("lend 272")
+    say("words", block(272, {**packed, 268: 9}))
+    ok("lend 268", "set_timer c 0 9", "word_second 14 2")
+    say("show", state(0, 1, settings, ["timer c 0 9", "event base 1 100 0 c 0 0 0 0", "event internal 9 50 0 s 0 0 0 0"]))
+    ok("set_timer c 0 9", "take_second")
+    refused(2, *EVERY)
+    say("show", "not accepted\nend")
+    ok("word_second 14 0", "take_second", "set_timer c 0 9")
+    note("Lines about the second block leave the first, and what is known of it")
+    for line in ("pack", "word_second 25 7", "lend_second 3", "lend_second 268", "words_second"):
+        if line == "words_second":
+            say(line, block(268, {**packed, 25: 7, 64: 10}))
+        else:
+            ok(line)
+        ok("set_timer c 0 9")
+    note("Bad lines, which change nothing")
+    for line in ("pack 1", "pack c", "pack -", "Pack", "packs", "pac", "lend_second", "lend_second 8193", "lend_second 18446744073709551616", "lend_second -", "lend_second 1 1",
+                 "lend_second c", "lend_secon 1", "lend_seconds 1", "word_second 1", "word_second 8192 0", "word_second 0 -", "word_second 0 18446744073709551616", "word_second 0 1 2",
+                 "word_secon 0 0", "word_seconds 0 0", "words_second 1", "words_secon", "words_seconds", "take_second 0", "take_second c", "take_secon", "take_seconds", "take second", "lend second 5"):
+        bad(line)
+    say("words_second", block(268, {**packed, 25: 7, 64: 10}))
+    say("show", state(0, 1, settings, ["timer c 0 9", "event base 1 100 0 c 0 0 0 0", "event internal 9 50 0 s 0 0 0 0"]))
+    note("The longest blocks that the program has, and one record")
+    ok("lend 8192", "lend_second 8192", "open " + settings, "pack", "take_second")
+    say("show", state(0, 1984, settings))
+    ok("lend 260", "lend_second 260", "open " + settings, other)
+    packs({**header, 26: 1, 27: 1, 257: 100, 259: 17}, 260)
+
+
 # ---- printed by the Rust
 
 def rust(lists, oracle, name, title):
@@ -627,6 +749,7 @@ def main():
     acceptance()
     sums()
     known()
+    packing()
     rust(lists, oracle, "edges.txt", "the edges of the rules, behaviour that looks odd, the misreadings")
     rust(lists, oracle, "sample.txt", "a sample of the random lists of every kind")
     note("By hand: a last line without a newline, with a CR, is a line too")

@@ -76,6 +76,7 @@ mod choice;
 mod event;
 mod list;
 mod opening;
+mod packed;
 mod refusal;
 mod row;
 pub mod sys;
@@ -85,6 +86,7 @@ pub use block::{accepted, Core};
 pub use choice::Choice;
 pub use event::{Action, ActionKind, Kind, Side, SimEvent};
 pub use opening::{Opening, SideOpening};
+pub use packed::{pack, same_forecast};
 pub use refusal::Refusal;
 pub use row::{Call, Row, Stop, ROW_WORDS};
 

@@ -10,7 +10,7 @@ use std::fmt;
 ///
 /// | number | given exactly when |
 /// |---|---|
-/// | 1 | the length is not 256 + 4R words, R from 1 to 65,535 |
+/// | 1 | the length is not 256 + 4R words, R from 1 to 65,535, or a second block has another |
 /// | 2 | the words are no accepted state (not at opening) |
 /// | 3 | the state is marked ended |
 /// | 4 | an opening value is outside its limits |
@@ -30,7 +30,7 @@ use std::fmt;
 /// assert_eq!(refusal.number(), 1);
 /// assert_eq!(
 ///     refusal.to_string(),
-///     "refusal 1: the length is not 256 + 4R words, R from 1 to 65,535"
+///     "refusal 1: the length is not 256 + 4R words, R from 1 to 65,535, or a second block has another"
 /// );
 /// ```
 #[derive(Clone, Copy, Debug, PartialEq, Eq, Hash)]
@@ -78,7 +78,7 @@ impl Refusal {
     /// ```
     pub fn meaning(&self) -> &'static str {
         match self.number {
-            1 => "the length is not 256 + 4R words, R from 1 to 65,535",
+            1 => "the length is not 256 + 4R words, R from 1 to 65,535, or a second block has another",
             2 => "the words are no accepted state",
             3 => "the state is marked ended",
             4 => "an opening value is outside its limits",

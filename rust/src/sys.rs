@@ -8,7 +8,8 @@
 //!
 //! Of every function here: `block` points to `words` words that are aligned to 8 bytes and that nobody else reads or
 //! writes during the call; it is not null, even where `words` is 0. The same holds of `out` and `out_words`, of `answers`
-//! and `answers_words`, and, but that others may read them too, of `calls` and `calls_words`; none of these overlap.
+//! and `answers_words`, of `second` and `second_words`, and, but that others may read them too, of `calls` and `calls_words`
+//! and of the block of packing; none of these overlap.
 //! Nothing is asked of what the words hold, nor of the numbers.
 
 extern "C" {
@@ -108,6 +109,15 @@ extern "C" {
         machine: u64,
         out: *mut u64,
         out_words: usize,
+    ) -> u64;
+
+    /// Packs the state of `block`, which is only read, into `second`. A second block of another length is refused with 1 and
+    /// left as it was.
+    pub fn maybenot_core_pack(
+        block: *const u64,
+        words: usize,
+        second: *mut u64,
+        second_words: usize,
     ) -> u64;
 
     /// Makes the calls of a list, and answers how many were made. Of each row of twelve words in `calls` the first is the

@@ -11,7 +11,8 @@ use Rattle.rules.specs.Arguments.{Call}
 use Rattle.rules.specs.Opening.{Opening}
 use Rattle.simulator.specs.Outcome.{Outcome}
 use Rattle.simulator.specs.Openings.{Opens}
-use Rattle.call_list.specs.Lent.{OnLent, OpensLent}
+use Rattle.simulator.specs.Packs.{Packs}
+use Rattle.call_list.specs.Lent.{OnLent, OpensLent, PacksLent}
 
 module _ (n : ℕ) (w ys : List ℕ) (within : n ≤ length w) (len : length ys ≡ length (take (n - 0) (drop 0 w))) where
   all : n - 0 ≡ n
@@ -38,3 +39,15 @@ module _ (n : ℕ) (w ys : List ℕ) (within : n ≤ length w) (len : length ys 
 
   pub opens-lent : (o : Opening) (a : Answer) → Opens (take (n - 0) (drop 0 w)) o a ys → OpensLent n w o a (putMid 0 (n - 0) w ys)
   opens-lent o a p = record { opening = between (λ (x y : List ℕ). Opens x o a y) p; rest = behind }
+
+  -- the first k of the words x of another block, packed into these
+  pub packs-lent :
+      (k : ℕ) (x : List ℕ) (a : Answer) → Packs (take (k - 0) (drop 0 x)) (take (n - 0) (drop 0 w)) a ys
+      → PacksLent k x n w a (putMid 0 (n - 0) w ys)
+  packs-lent k x a p =
+      let whole : k - 0 ≡ k = omega arith in
+      let read : take (k - 0) (drop 0 x) ≡ take k x = ap (λ (j : ℕ). take j x) whole in
+      record {
+        packing = between (λ (y z : List ℕ). Packs (take k x) y a z) (subst (λ (y : List ℕ). Packs y (take (n - 0) (drop 0 w)) a ys) read p);
+        rest = behind;
+      }

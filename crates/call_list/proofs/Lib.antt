@@ -1,4 +1,5 @@
 pub mod KnownLaws
 pub mod LentLaws
 pub mod ReadingLaws
+pub mod TakeLaws
 pub mod WithinLaws

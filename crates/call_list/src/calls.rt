@@ -7,8 +7,9 @@ ghost use Rattle.event.specs.HandedIn.{eventIn, actionIn};
 ghost use Rattle.event.specs.Answers.{answerOf, choiceOf, stepOf};
 ghost use Rattle.simulator.specs.Numbers.{slotIn, Lent};
 ghost use Rattle.simulator.specs.Openings.{openingOf};
-ghost use Rattle.call_list.specs.Lent.{OnLent, OpensLent, Known};
+ghost use Rattle.call_list.specs.Lent.{OnLent, OpensLent, PacksLent, Takes, Known};
 use crate::reading;
+use crate::reading::Scan;
 use crate::words;
 use crate::words::Call;
 use answer_text::answers;
@@ -233,15 +234,57 @@ fn sim_network_stack(
     simulator::step::sim_network_stack_on(&mut state[0..lent], hints, e, time)
 }
 
-// Word i becomes v, where there is one.
-fn set_word(state: &mut [u64], i: u64, v: u64) -> Answer {
+// Word i of a block becomes v, where there is one.
+fn set_word(block: &mut [u64], i: u64, v: u64) -> Answer {
     if i < 65536 {
         let at = i as usize;
-        if at < state.len() {
-            state[at] = v;
+        if at < block.len() {
+            block[at] = v;
         }
     }
     Answer::Done
+}
+
+// ---- the second block, of which the first `reach` words are lent
+
+fn pack(state: &[u64], lent: usize, second: &mut [u64], reach: usize) -> Answer
+    requires { ⌜ (lent ≤ length (now state)) × (reach ≤ length (now second)) ⌝ }
+    ensures { λ a. ⌜ PacksLent lent (now (state .entry)) reach (now (second .entry)) (answerOf a) (now (second .exit)) ⌝ }
+{
+    simulator::pack::pack(&state[0..lent], &mut second[0..reach])
+}
+
+// The words of the second block over those of the first, where there are as many.
+fn take_second(state: &mut [u64], second: &[u64]) -> Answer
+    ensures { λ _. ⌜ Takes (now (state .entry)) (now (second .entry)) (now (state .exit)) ⌝ }
+{
+    if second.len() != state.len() {
+        return Answer::Done;
+    }
+    let mut i = 0;
+    while i < state.len() {
+        state[i] = second[i];
+        i += 1;
+    }
+    Answer::Done
+}
+
+// `word_second` and packing; the work of `lend_second` is done elsewhere.
+fn second_written(
+    call: Call,
+    values: &[u64; 12],
+    lent: usize,
+    reach: usize,
+    state: &[u64],
+    second: &mut [u64],
+) -> Answer
+    requires { ⌜ (lent ≤ length (now state)) × (reach ≤ length (now second)) ⌝ }
+{
+    match call {
+        Call::WordSecond => set_word(second, values[0], values[1]),
+        Call::Pack => pack(state, lent, second, reach),
+        _ => Answer::Done,
+    }
 }
 
 // ---- a line's answer
@@ -443,21 +486,48 @@ fn changed(
     Left { lent, known, used }
 }
 
-// `show`, `words` and a line that is no call, which leave every word.
+// `take_second`: the words of the first block are those of the second, and not known to be accepted.
+fn taken_second(
+    state: &mut [u64],
+    second: &[u64],
+    reach: usize,
+    out: &mut [u8],
+    used: usize,
+) -> Left
+    requires { ⌜ used ≤ length (now out) ⌝ }
+    ensures { λ r. ⌜ (r .lent ≤ length (now (state .exit))) × (r .used ≤ length (now (out .exit))) ⌝ }
+    ensures { λ r. ⌜ Known (r .known) (r .lent) (now (state .exit)) ⌝ }
+    ensures { λ _. ⌜ Takes (now (state .entry)) (now (second .entry)) (now (state .exit)) ⌝ }
+{
+    let lent = words::at_most(reach, state);
+    let a = take_second(state, second);
+    let used = answers::told(out, used, a);
+    let after = reading::UNKNOWN;
+    Left {
+        lent,
+        known: after,
+        used,
+    }
+}
+
+// `show`, `words`, `words_second` and a line that is no call, which leave every word.
 fn listed(
     call: Call,
     line_number: u64,
     lent: usize,
+    reach: usize,
     state: &[u64],
+    second: &[u64],
     out: &mut [u8],
     used: usize,
 ) -> usize
-    requires { ⌜ (lent ≤ length (now state)) × (used ≤ length (now out)) ⌝ }
+    requires { ⌜ (lent ≤ length (now state)) × ((reach ≤ length (now second)) × (used ≤ length (now out))) ⌝ }
     ensures { λ u. ⌜ u ≤ length (now (out .exit)) ⌝ }
 {
     match call {
         Call::Show => lists::show(&state[0..lent], out, used),
         Call::Words => lists::words(&state[0..lent], out, used),
+        Call::WordsSecond => lists::words(&second[0..reach], out, used),
         _ => answers::bad_line(out, used, line_number),
     }
 }
@@ -468,6 +538,24 @@ fn leaves_words(call: Call) -> bool {
         Call::Bad => true,
         Call::Show => true,
         Call::Words => true,
+        Call::WordsSecond => true,
+        _ => false,
+    }
+}
+
+// Whether the line lends or writes the second block, and leaves the first.
+fn second_only(call: Call) -> bool {
+    match call {
+        Call::LendSecond => true,
+        Call::WordSecond => true,
+        Call::Pack => true,
+        _ => false,
+    }
+}
+
+fn takes_second(call: Call) -> bool {
+    match call {
+        Call::TakeSecond => true,
         _ => false,
     }
 }
@@ -482,32 +570,66 @@ fn changes_words(call: Call) -> bool {
     }
 }
 
-// The line whose first word has so many letters and which has so many arguments.
+// The call of a line, on the words that the line is lent. A line that lists, or is about the second block alone, leaves the first block, and with it what is
+// known of it.
+fn line_called(
+    call: Call,
+    s: Scan,
+    forms: &[u64; 12],
+    values: &[u64; 12],
+    hints: &mut [u64; 12],
+    state: &mut [u64],
+    second: &mut [u64],
+    out: &mut [u8],
+) -> Left
+    requires { ⌜ (s .lent ≤ length (now state)) × (s .used ≤ length (now out)) ⌝ ∗ ⌜ Known (s .known) (s .lent) (now state) ⌝ }
+    ensures { λ r. ⌜ (r .lent ≤ length (now (state .exit))) × (r .used ≤ length (now (out .exit))) ⌝ }
+    ensures { λ r. ⌜ Known (r .known) (r .lent) (now (state .exit)) ⌝ }
+{
+    let lent = s.lent;
+    let known = s.known;
+    let reach = words::at_most(s.lent_second, second);
+    if leaves_words(call) {
+        let used = listed(call, s.line, lent, reach, state, second, out, s.used);
+        return Left { lent, known, used };
+    }
+    if second_only(call) {
+        let a = second_written(call, values, lent, reach, state, second);
+        let used = answers::told(out, s.used, a);
+        return Left { lent, known, used };
+    }
+    if takes_second(call) {
+        return taken_second(state, second, reach, out, s.used);
+    }
+    if changes_words(call) {
+        return changed(call, values, forms, lent, state, out, s.used);
+    }
+    called(call, values, lent, known, hints, state, out, s.used)
+}
+
+// The line that ends here is answered; then at the start of the next.
 pub(crate) fn line_answered(
-    line_number: u64,
-    letters: usize,
-    arguments: usize,
-    lent: usize,
-    known: u64,
-    used: usize,
+    s: Scan,
     name: &[u8; 24],
     forms: &[u64; 12],
     values: &[u64; 12],
     hints: &mut [u64; 12],
     state: &mut [u64],
+    second: &mut [u64],
     out: &mut [u8],
-) -> Left
-    requires { ⌜ (lent ≤ length (now state)) × (used ≤ length (now out)) ⌝ ∗ ⌜ Known known lent (now state) ⌝ }
+) -> Scan
+    requires { ⌜ (s .lent ≤ length (now state)) × (s .used ≤ length (now out)) ⌝ ∗ ⌜ Known (s .known) (s .lent) (now state) ⌝ }
     ensures { λ r. ⌜ (r .lent ≤ length (now (state .exit))) × (r .used ≤ length (now (out .exit))) ⌝ }
     ensures { λ r. ⌜ Known (r .known) (r .lent) (now (state .exit)) ⌝ }
 {
-    let call = words::understood(name, letters, forms, arguments, values);
-    if leaves_words(call) {
-        let used = listed(call, line_number, lent, state, out, used);
-        return Left { lent, known, used };
-    }
-    if changes_words(call) {
-        return changed(call, values, forms, lent, state, out, used);
-    }
-    called(call, values, lent, known, hints, state, out, used)
+    let call = words::understood(name, s.letters, forms, s.arguments, values);
+    let lent_second = words::lent_second_after(call, values, s.lent_second);
+    let r = line_called(call, s, forms, values, hints, state, second, out);
+    Scan::at_line(
+        reading::next_line(s.line),
+        r.lent,
+        lent_second,
+        r.known,
+        r.used,
+    )
 }

@@ -1,5 +1,5 @@
 // A line, byte by byte: its first word is kept in `name`; of each argument `forms` keeps what it is and `values` its number.
-// `hints` goes from call to call: the last records of the chains, of which nothing is promised.
+// `hints` goes from call to call: the last records of the chains, of which nothing is promised. `state` is the first block, `second` the second.
 ghost use mathlib.Core.Path.{_≡_};
 ghost use Prim.Native.Nat.{_≤_};
 ghost use lib.ListN.{length};
@@ -106,13 +106,6 @@ fn fed(s: Scan, b: u8, name: &mut [u8; 24], forms: &mut [u64; 12], values: &mut 
     taken(t, b, name, forms, values)
 }
 
-fn next_line(line: u64) -> u64 {
-    if line < 0xffff_ffff_ffff_ffff {
-        return line + 1;
-    }
-    line
-}
-
 // Whether the line is empty or a comment.
 fn passed_over(s: Scan) -> bool {
     if s.place == reading::COMMENT {
@@ -125,6 +118,7 @@ fn passed_over(s: Scan) -> bool {
 fn done(
     s: Scan,
     state: &mut [u64],
+    second: &mut [u64],
     out: &mut [u8],
     name: &mut [u8; 24],
     forms: &mut [u64; 12],
@@ -136,24 +130,16 @@ fn done(
     ensures { λ r. ⌜ Known (r .known) (r .lent) (now (state .exit)) ⌝ }
 {
     if passed_over(s) {
-        return Scan::at_line(next_line(s.line), s.lent, s.known, s.used);
+        return Scan::at_line(
+            reading::next_line(s.line),
+            s.lent,
+            s.lent_second,
+            s.known,
+            s.used,
+        );
     }
     let t = parted(s.without_cr(), forms, values);
-    let r = calls::line_answered(
-        t.line,
-        t.letters,
-        t.arguments,
-        t.lent,
-        t.known,
-        t.used,
-        name,
-        forms,
-        values,
-        hints,
-        state,
-        out,
-    );
-    Scan::at_line(next_line(t.line), r.lent, r.known, r.used)
+    calls::line_answered(t, name, forms, values, hints, state, second, out)
 }
 
 // One byte of the input.
@@ -161,6 +147,7 @@ fn next_byte(
     s: Scan,
     b: u8,
     state: &mut [u64],
+    second: &mut [u64],
     out: &mut [u8],
     name: &mut [u8; 24],
     forms: &mut [u64; 12],
@@ -177,7 +164,7 @@ fn next_byte(
         }
     }
     if b == b'\n' {
-        return done(s, state, out, name, forms, values, hints);
+        return done(s, state, second, out, name, forms, values, hints);
     }
     fed(s, b, name, forms, values)
 }
@@ -187,6 +174,7 @@ pub fn scan_piece(
     input: &[u8],
     start: Scan,
     state: &mut [u64],
+    second: &mut [u64],
     out: &mut [u8],
     name: &mut [u8; 24],
     forms: &mut [u64; 12],
@@ -200,7 +188,7 @@ pub fn scan_piece(
     let mut s = start;
     let mut i = 0;
     while i < input.len() {
-        s = next_byte(s, input[i], state, out, name, forms, values, hints);
+        s = next_byte(s, input[i], state, second, out, name, forms, values, hints);
         i += 1;
     }
     s

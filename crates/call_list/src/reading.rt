@@ -35,7 +35,7 @@ pub(crate) const LETTERS: usize = 24;
 
 pub(crate) const ARGUMENTS: usize = 12;
 
-// The words that the calls are lent at the start.
+// The words that the calls are lent at the start, of either block.
 const LENT: usize = 8192;
 
 // Whether the words that the calls are lent are known to be an accepted state, so that no call needs to test them: UNKNOWN says nothing.
@@ -48,6 +48,8 @@ pub(crate) const KNOWN: u64 = 1;
 pub struct Scan {
     pub line: u64,
     pub lent: usize,
+    // of the second block; at most so many, where it has fewer
+    pub lent_second: usize,
     // KNOWN where the words lent are known to be an accepted state
     pub known: u64,
     pub used: usize,
@@ -144,21 +146,36 @@ pub(crate) fn numeric(form: u64) -> bool
     form == NUMBER
 }
 
+// The number of the next line.
+pub(crate) fn next_line(line: u64) -> u64 {
+    if line < 0xffff_ffff_ffff_ffff {
+        return line + 1;
+    }
+    line
+}
+
 impl Scan {
     // At the start of the input.
     pub fn new(state: &[u64]) -> Self
         ensures { λ r. ⌜ (r .lent ≤ length (now (state .entry))) × ((r .known ≡ 0) × (r .used ≡ 0)) ⌝ }
     {
-        Scan::at_line(1, words::at_most(LENT, state), UNKNOWN, 0)
+        Scan::at_line(1, words::at_most(LENT, state), LENT, UNKNOWN, 0)
     }
 
     // At the start of a line.
-    pub(crate) fn at_line(line: u64, lent: usize, known: u64, used: usize) -> Self
+    pub(crate) fn at_line(
+        line: u64,
+        lent: usize,
+        lent_second: usize,
+        known: u64,
+        used: usize,
+    ) -> Self
         ensures { λ r. ⌜ (r .lent ≡ lent) × ((r .known ≡ known) × (r .used ≡ used)) ⌝ }
     {
         Self {
             line,
             lent,
+            lent_second,
             known,
             used,
             place: FIRST_WORD,

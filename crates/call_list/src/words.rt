@@ -1,4 +1,4 @@
-// Which call a line makes: its first word, the shape of its arguments, and what `lend` and `word` may name.
+// Which call a line makes: its first word, the shape of its arguments, and what `lend`, `word` and the same of the second block may name.
 ghost use mathlib.Core.Path.{_≡_};
 ghost use Prim.Native.Nat.{_≤_};
 ghost use mathlib.Core.Bool.{true};
@@ -6,7 +6,7 @@ ghost use lib.ListN.{length};
 ghost use Rattle.call_list.specs.Reading.{staysWithin};
 use crate::reading;
 
-// The words of the program.
+// The words of each of the program's two blocks.
 const WORDS: u64 = 8192;
 
 pub enum Call {
@@ -23,6 +23,11 @@ pub enum Call {
     SimNetworkStack,
     Show,
     Words,
+    LendSecond,
+    WordSecond,
+    WordsSecond,
+    TakeSecond,
+    Pack,
 }
 
 // Whether the first n letters of name are the text.
@@ -88,6 +93,25 @@ fn named_words(name: &[u8; 24], n: usize) -> Call {
     if spells(name, n, b"words") {
         return Call::Words;
     }
+    named_second(name, n)
+}
+
+fn named_second(name: &[u8; 24], n: usize) -> Call {
+    if spells(name, n, b"pack") {
+        return Call::Pack;
+    }
+    if spells(name, n, b"lend_second") {
+        return Call::LendSecond;
+    }
+    if spells(name, n, b"word_second") {
+        return Call::WordSecond;
+    }
+    if spells(name, n, b"words_second") {
+        return Call::WordsSecond;
+    }
+    if spells(name, n, b"take_second") {
+        return Call::TakeSecond;
+    }
     Call::Bad
 }
 
@@ -141,16 +165,23 @@ fn arguments_fit(call: Call, forms: &[u64; 12], n: usize) -> bool {
         Call::SimNetworkStack => shaped(forms, n, b"nnnnsfffn"),
         Call::Show => n == 0,
         Call::Words => n == 0,
+        Call::LendSecond => shaped(forms, n, b"n"),
+        Call::WordSecond => shaped(forms, n, b"nn"),
+        Call::WordsSecond => n == 0,
+        Call::TakeSecond => n == 0,
+        Call::Pack => n == 0,
     }
 }
 
-// Whether `lend` or `word` stays within the program's words.
+// Whether `lend` or `word`, of either block, stays within its words.
 fn within(call: Call, values: &[u64; 12]) -> bool
     ensures { λ r. ⌜ r ≡ staysWithin call (now (values .entry)) ⌝ }
 {
     match call {
         Call::Lend => values[0] <= WORDS,
         Call::Word => values[0] < WORDS,
+        Call::LendSecond => values[0] <= WORDS,
+        Call::WordSecond => values[0] < WORDS,
         _ => true,
     }
 }
@@ -198,4 +229,16 @@ pub(crate) fn lent_after(call: Call, values: &[u64; 12], state: &[u64], lent: us
         return lent;
     }
     at_most(n as usize, state)
+}
+
+// How many words of the second block the calls are lent after the line: at most so many, where the block has fewer.
+pub(crate) fn lent_second_after(call: Call, values: &[u64; 12], lent_second: usize) -> usize {
+    let Call::LendSecond = call else {
+        return lent_second;
+    };
+    let n = values[0];
+    if n > WORDS {
+        return lent_second;
+    }
+    n as usize
 }

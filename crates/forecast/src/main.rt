@@ -20,6 +20,7 @@ fn turn_once(
     s: Scan,
     turns: u64,
     state: &mut [u64],
+    second: &mut [u64],
     out: &mut [u8],
     name: &mut [u8; 24],
     forms: &mut [u64; 12],
@@ -36,7 +37,17 @@ fn turn_once(
     if n == 0 {
         return Turn { left: 0, scan: s };
     }
-    let scan = line::scan_piece(&input[0..n], s, state, out, name, forms, values, hints);
+    let scan = line::scan_piece(
+        &input[0..n],
+        s,
+        state,
+        second,
+        out,
+        name,
+        forms,
+        values,
+        hints,
+    );
     let left = turns - 1;
     Turn { left, scan }
 }
@@ -45,6 +56,7 @@ fn turn_once(
 fn run(
     input: &mut [u8],
     state: &mut [u64],
+    second: &mut [u64],
     out: &mut [u8],
     name: &mut [u8; 24],
     forms: &mut [u64; 12],
@@ -54,16 +66,28 @@ fn run(
     let mut s = Scan::new(state);
     let mut turns: u64 = 0xffff_ffff_ffff_ffff;
     while turns > 0 {
-        let t = turn_once(input, s, turns, state, out, name, forms, values, hints);
+        let t = turn_once(
+            input,
+            s,
+            turns,
+            state,
+            second,
+            out,
+            name,
+            forms,
+            values,
+            hints,
+        );
         s = t.scan;
         turns = t.left;
     }
-    let last = line::scan_piece(b"\n", s, state, out, name, forms, values, hints);
+    let last = line::scan_piece(b"\n", s, state, second, out, name, forms, values, hints);
     text::flush(out, last.used);
 }
 
 fn main() {
     let mut state = [0u64; 8192];
+    let mut second = [0u64; 8192];
     let mut input = io::large_buffer();
     let mut out = io::large_buffer();
     let mut name = [0u8; 24];
@@ -73,6 +97,7 @@ fn main() {
     run(
         &mut input,
         &mut state,
+        &mut second,
         &mut out,
         &mut name,
         &mut forms,

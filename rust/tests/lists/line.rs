@@ -12,6 +12,11 @@ pub enum Line {
     Call(Call),
     Show,
     Words,
+    LendSecond(usize),
+    WordSecond(usize, u64),
+    WordsSecond,
+    TakeSecond,
+    Pack,
 }
 
 /// The line in these bytes, `None` for one that is passed over.
@@ -124,6 +129,11 @@ fn call_of(name: &[u8], arguments: &[&[u8]]) -> Option<Line> {
         (b"open", words) => Line::Open(opening(words)?),
         (b"show", []) => Line::Show,
         (b"words", []) => Line::Words,
+        (b"lend_second", [n]) => Line::LendSecond(place(n, WORDS)?),
+        (b"word_second", [at, value]) => Line::WordSecond(place(at, WORDS - 1)?, number(value)?),
+        (b"words_second", []) => Line::WordsSecond,
+        (b"take_second", []) => Line::TakeSecond,
+        (b"pack", []) => Line::Pack,
         _ => Line::Call(core_call(name, arguments)?),
     })
 }

@@ -15,13 +15,15 @@ use line::{line_of, Line};
 use maybenot_core::{Answer, Call, Choice, Core, Refusal};
 use random::Random;
 
-/// The words that the lists work on.
+/// The words that the lists work on, and those of the second block.
 pub const WORDS: usize = 8192;
 
-/// The words, and how many of them the calls are lent.
+/// The words, those of the second block, and how many of each the calls are lent.
 pub struct Lists {
     words: Vec<u64>,
     lent: usize,
+    second: Vec<u64>,
+    lent_second: usize,
     calls: Calls,
 }
 
@@ -78,12 +80,20 @@ fn write(given: &Answer, answers: &mut Vec<String>) {
     }
 }
 
+/// One word a line, then `end`.
+fn list_words(words: &[u64], answers: &mut Vec<String>) {
+    answers.extend(words.iter().map(u64::to_string));
+    answers.push("end".to_string());
+}
+
 impl Lists {
     /// Calls are made one by one.
     pub fn new() -> Lists {
         Lists {
             words: vec![0; WORDS],
             lent: WORDS,
+            second: vec![0; WORDS],
+            lent_second: WORDS,
             calls: Calls::OneByOne,
         }
     }
@@ -139,15 +149,31 @@ impl Lists {
                 answers.push(ok(()));
             }
             Line::Show => show::show(&mut Core::resume(lent), answers),
-            Line::Words => {
-                answers.extend(lent.iter().map(u64::to_string));
-                answers.push("end".to_string());
-            }
+            Line::Words => list_words(lent, answers),
             Line::Open(opening) => answers.push(answer(
                 Core::open_in(lent, &opening).map(|_| "ok".to_string()),
             )),
             Line::Call(_) => unreachable!("made before"),
+            line => self.answer_second(line, answers),
         }
+    }
+
+    /// A line about the second block.
+    fn answer_second(&mut self, line: Line, answers: &mut Vec<String>) {
+        let lent = &mut self.second[..self.lent_second];
+        let mut done = Ok(());
+        match line {
+            Line::LendSecond(n) => self.lent_second = n,
+            Line::WordSecond(at, value) => self.second[at] = value,
+            Line::WordsSecond => return list_words(lent, answers),
+            Line::TakeSecond => {
+                self.words.copy_from_slice(&self.second);
+                self.lent = self.lent_second;
+            }
+            Line::Pack => done = Core::resume(&mut self.words[..self.lent]).pack(lent),
+            _ => unreachable!("no line about the second block"),
+        }
+        answers.push(answer(done.map(ok)));
     }
 
     /// Makes a call, or lets it wait for its batch.

@@ -1,6 +1,6 @@
 -- `forecast::run` meets its contract. Assumes nothing.
 use Prim.Native.Nat.{_≤_}
-use mathlib.Core.Path.{_≡_, refl}
+use mathlib.Core.Path.{_≡_, refl, _∙_}
 use lib.ListN.{length}
 use borrow.Author.Needs.{needs}
 use Rattle.call_list.specs.Lent.{Known}
@@ -9,11 +9,11 @@ use Rattle.forecast.proofs.run.Statement.{statement}
 use Rattle.forecast.proofs.run.Tie as tie
 
 abbrev Inv-loop : tie.InvT-loop
-Inv-loop input₀ state₀ out₀ name₀ forms₀ values₀ hints₀ s₀ turns₀ t11 input state out name forms values hints s turns =
-    ((s .lent ≤ length state) × (s .used ≤ length out)) × (Known (s .known) (s .lent) state × ((length state ≡ length state₀) × ((length out ≡ length out₀) × (length input ≡ length input₀))))
+Inv-loop input₀ state₀ second₀ out₀ name₀ forms₀ values₀ hints₀ s₀ turns₀ t11 input state second out name forms values hints s turns =
+    ((s .lent ≤ length state) × (s .used ≤ length out)) × (Known (s .known) (s .lent) state × ((length state ≡ length state₀) × ((length out ≡ length out₀) × ((length input ≡ length input₀) × (length second ≡ length second₀)))))
 
 abbrev μ-loop : tie.MeasureT-loop
-μ-loop input₀ state₀ out₀ name₀ forms₀ values₀ hints₀ s₀ turns₀ t11 input state out name forms values hints s turns =
+μ-loop input₀ state₀ second₀ out₀ name₀ forms₀ values₀ hints₀ s₀ turns₀ t11 input state second out name forms values hints s turns =
     turns
 
 new-requires : tie.Need-new-requires Inv-loop μ-loop
@@ -29,7 +29,7 @@ loop-less : tie.Need-loop-less Inv-loop μ-loop
 loop-less c = search needs
 
 loop-again : tie.Need-loop-again Inv-loop μ-loop
-loop-again c = (search needs, (c .before .before .before .before .before .before .before .turn-once .ensures .1 .1, search needs))
+loop-again c = (search needs, (c .before .before .before .before .before .before .before .before .before .turn-once .ensures .1 .1, (c .before .before .before .before .before .before .before .before .before .turn-once .kept .1 .1 .1 .0 ∙ c .before .before .before .before .before .before .before .before .before .before .before .before .before .before .before .before .before .before .before .loop .inv .1 .1 .0, (c .before .before .before .before .before .before .before .before .before .turn-once .kept .1 .1 .1 .1 .1 .0 ∙ c .before .before .before .before .before .before .before .before .before .before .before .before .before .before .before .before .before .before .before .loop .inv .1 .1 .1 .0, (c .before .before .before .before .before .before .before .before .before .turn-once .kept .0 ∙ c .before .before .before .before .before .before .before .before .before .before .before .before .before .before .before .before .before .before .before .loop .inv .1 .1 .1 .1 .0, c .before .before .before .before .before .before .before .before .before .turn-once .kept .1 .1 .1 .1 .0 ∙ c .before .before .before .before .before .before .before .before .before .before .before .before .before .before .before .before .before .before .before .loop .inv .1 .1 .1 .1 .1)))))
 
 slice-aggregate-scan-piece : tie.Need-slice-aggregate-scan-piece Inv-loop μ-loop
 slice-aggregate-scan-piece c = search needs
@@ -41,13 +41,16 @@ flush-requires : tie.Need-flush-requires Inv-loop μ-loop
 flush-requires c κs = search needs
 
 same-length : tie.Need-same-length Inv-loop μ-loop
-same-length c = search needs
+same-length c = c .before .before .before .before .before .before .before .before .before .before .before .before .before .before .before .before .before .before .loop .inv .1 .1 .1 .1 .0
 
 same-length-2 : tie.Need-same-length-2 Inv-loop μ-loop
 same-length-2 c = search needs
 
 same-length-3 : tie.Need-same-length-3 Inv-loop μ-loop
-same-length-3 c = search needs
+same-length-3 c = c .before .before .before .before .before .before .before .before .scan-piece .kept .1 .1 .1 .0 ∙ c .before .before .before .before .before .before .before .before .before .before .before .before .before .before .before .before .before .before .loop .inv .1 .1 .1 .1 .1
+
+same-length-4 : tie.Need-same-length-4 Inv-loop μ-loop
+same-length-4 c = c .before .before .before .before .before .before .before .before .scan-piece .kept .1 .1 .1 .1 .0 ∙ c .before .before .before .before .before .before .before .before .before .before .before .before .before .before .before .before .before .before .loop .inv .1 .1 .1 .0
 
 returns : tie.Need-returns Inv-loop μ-loop
 returns c = search needs
@@ -69,4 +72,5 @@ run-spec =
     same-length
     same-length-2
     same-length-3
+    same-length-4
     returns)

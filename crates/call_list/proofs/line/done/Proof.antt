@@ -1,7 +1,7 @@
 -- `call_list::line::done` meets its contract. Assumes nothing.
 use mathlib.Core.Path.{_∙_}
-use borrow.Author.Needs.{needs}
 use Rattle.call_list.proofs.KnownLaws.{same-known}
+use borrow.Author.Needs.{needs}
 use Rattle.call_list.proofs.line.done.Statement.{statement}
 use Rattle.call_list.proofs.line.done.Tie as tie
 
@@ -15,7 +15,7 @@ at-line-requires : tie.Need-at-line-requires
 at-line-requires c κs = search needs
 
 returns : tie.Need-returns
-returns c = (search needs, same-known _ _ _ _ _ (c .before .before .before .before .before .before .pre .1) (c .at-line .ensures .1 .0) (c .at-line .ensures .0))
+returns c = (search needs, same-known _ _ _ _ _ (c .before .before .before .before .before .before .before .pre .1) (c .at-line .ensures .1 .0) (c .at-line .ensures .0))
 
 without-cr-requires : tie.Need-without-cr-requires
 without-cr-requires c κs = search needs
@@ -24,13 +24,7 @@ parted-requires : tie.Need-parted-requires
 parted-requires c κs = search needs
 
 line-answered-requires : tie.Need-line-answered-requires
-line-answered-requires c κs = (search needs, same-known _ _ _ _ _ (c .before .before .before .before .before .before .before .before .before .before .before .before .before .before .pre .1) (c .before .before .before .before .before .before .parted .ensures .1 .0 ∙ c .before .before .before .before .before .before .before .before .before .without-cr .ensures .1 .0) (c .before .before .before .before .before .before .parted .ensures .0 ∙ c .before .before .before .before .before .before .before .before .before .without-cr .ensures .0))
-
-next-line-requires-2 : tie.Need-next-line-requires-2
-next-line-requires-2 c κs = search needs
-
-at-line-requires-2 : tie.Need-at-line-requires-2
-at-line-requires-2 c κs = search needs
+line-answered-requires c κs = (search needs, same-known _ _ _ _ _ (c .before .before .before .before .before .before .before .before .before .before .before .before .before .before .before .before .pre .1) (c .before .before .before .before .before .before .before .parted .ensures .1 .0 ∙ c .before .before .before .before .before .before .before .before .before .before .without-cr .ensures .1 .0) (c .before .before .before .before .before .before .before .parted .ensures .0 ∙ c .before .before .before .before .before .before .before .before .before .before .without-cr .ensures .0))
 
 same-length : tie.Need-same-length
 same-length c = search needs
@@ -38,8 +32,24 @@ same-length c = search needs
 same-length-2 : tie.Need-same-length-2
 same-length-2 c = search needs
 
+same-length-3 : tie.Need-same-length-3
+same-length-3 c = search needs
+
 returns-2 : tie.Need-returns-2
-returns-2 c = (search needs, same-known _ _ _ _ _ (c .before .before .before .before .before .before .line-answered .ensures .1) (c .at-line2 .ensures .1 .0) (c .at-line2 .ensures .0))
+returns-2 c = search needs
 
 pub done-spec : {M : Type 1} → statement M
-done-spec = tie.close (tie.spec passed-over-requires next-line-requires at-line-requires returns without-cr-requires parted-requires line-answered-requires next-line-requires-2 at-line-requires-2 same-length same-length-2 returns-2)
+done-spec =
+    tie.close
+    (tie.spec
+    passed-over-requires
+    next-line-requires
+    at-line-requires
+    returns
+    without-cr-requires
+    parted-requires
+    line-answered-requires
+    same-length
+    same-length-2
+    same-length-3
+    returns-2)

@@ -11,7 +11,7 @@ with-digit-requires : tie.Need-with-digit-requires
 with-digit-requires c κs = search needs
 
 returns : tie.Need-returns
-returns c = (search needs, same-known _ _ _ _ _ (c .before .before .before .before .before .before .before .pre .1) (c .with-digit .ensures .1 .0) (c .with-digit .ensures .0))
+returns c = (search needs, same-known _ _ _ _ _ (c .before .before .before .before .before .before .before .before .pre .1) (c .with-digit .ensures .1 .0) (c .with-digit .ensures .0))
 
 done-requires : tie.Need-done-requires
 done-requires c κs = search needs
@@ -22,6 +22,9 @@ same-length c = search needs
 same-length-2 : tie.Need-same-length-2
 same-length-2 c = search needs
 
+same-length-3 : tie.Need-same-length-3
+same-length-3 c = search needs
+
 returns-2 : tie.Need-returns-2
 returns-2 c = search needs
 
@@ -29,7 +32,7 @@ fed-requires : tie.Need-fed-requires
 fed-requires c κs = search needs
 
 returns-3 : tie.Need-returns-3
-returns-3 c = (search needs, same-known _ _ _ _ _ (c .before .before .before .before .before .before .before .before .before .pre .1) (c .fed .ensures .1 .0) (c .fed .ensures .0))
+returns-3 c = (search needs, same-known _ _ _ _ _ (c .before .before .before .before .before .before .before .before .before .before .pre .1) (c .fed .ensures .1 .0) (c .fed .ensures .0))
 
 pub next-byte-spec : {M : Type 1} → statement M
-next-byte-spec = tie.close (tie.spec is-digit-requires with-digit-requires returns done-requires same-length same-length-2 returns-2 fed-requires returns-3)
+next-byte-spec = tie.close (tie.spec is-digit-requires with-digit-requires returns done-requires same-length same-length-2 same-length-3 returns-2 fed-requires returns-3)

@@ -8,11 +8,11 @@ use Rattle.call_list.proofs.line.scan_piece.Statement.{statement}
 use Rattle.call_list.proofs.line.scan_piece.Tie as tie
 
 abbrev Inv-loop : tie.InvT-loop
-Inv-loop input state₀ out₀ name₀ forms₀ values₀ hints₀ s₀ i₀ state out name forms values hints s i =
-    (i ≤ length input) × (((s .lent ≤ length state) × (s .used ≤ length out)) × (Known (s .known) (s .lent) state × ((length state ≡ length state₀) × (length out ≡ length out₀))))
+Inv-loop input state₀ second₀ out₀ name₀ forms₀ values₀ hints₀ s₀ i₀ state second out name forms values hints s i =
+    (i ≤ length input) × (((s .lent ≤ length state) × (s .used ≤ length out)) × (Known (s .known) (s .lent) state × ((length state ≡ length state₀) × ((length out ≡ length out₀) × (length second ≡ length second₀)))))
 
 abbrev μ-loop : tie.MeasureT-loop
-μ-loop input state₀ out₀ name₀ forms₀ values₀ hints₀ s₀ i₀ state out name forms values hints s i = length input - i
+μ-loop input state₀ second₀ out₀ name₀ forms₀ values₀ hints₀ s₀ i₀ state second out name forms values hints s i = length input - i
 
 loop-holds : tie.Need-loop-holds Inv-loop μ-loop
 loop-holds c = search needs
@@ -30,13 +30,16 @@ loop-less : tie.Need-loop-less Inv-loop μ-loop
 loop-less c = search needs
 
 loop-again : tie.Need-loop-again Inv-loop μ-loop
-loop-again c = (search needs, (search needs, (c .before .before .before .before .next-byte .ensures .1, search needs)))
+loop-again c = (search needs, (search needs, (c .before .before .before .before .before .before .next-byte .ensures .1, search needs)))
 
 same-length : tie.Need-same-length Inv-loop μ-loop
 same-length c = search needs
 
 same-length-2 : tie.Need-same-length-2 Inv-loop μ-loop
 same-length-2 c = search needs
+
+same-length-3 : tie.Need-same-length-3 Inv-loop μ-loop
+same-length-3 c = search needs
 
 returns : tie.Need-returns Inv-loop μ-loop
 returns c = search needs
@@ -55,4 +58,5 @@ scan-piece-spec =
     loop-again
     same-length
     same-length-2
+    same-length-3
     returns)
