@@ -422,8 +422,9 @@ def taken_over(program, rnd, lists):
 
 
 def main():
-    if len(sys.argv) != 4:
-        sys.exit(__doc__)
+    if len(sys.argv) != 4 or not sys.argv[3].isdigit():
+        print(__doc__, file=sys.stderr)
+        sys.exit(2)
     program, seed, states = sys.argv[1], sys.argv[2], int(sys.argv[3])
     rnd = random.Random(f"packed {seed}")
     counts = held_states(program, rnd, states)
