@@ -8,7 +8,7 @@ Damaged words are refused by the table. Then random lists, with the state packed
 answers. Prints how many of each; exit status 1 where something differs."""
 import random, subprocess, sys
 import generate
-from damaged import KINDS_M, L12, MAX, TOP, accepted, bases, damaged, reserved_of, show, size_ok, some_call
+from damaged import KINDS_M, L12, TOP, accepted, bases, damaged, show, size_ok, some_call
 
 EVENTS = (1, 2, 3, 4, 6, 7, 8, 9)
 STAMPS = (5, 10)
@@ -220,7 +220,6 @@ def other_side(rnd, s):
         s.chains[to].insert(at, (moment, length, tag - k + to))
 
 
-ALL = (*EVENTS, *STAMPS, AGGREGATES)
 ONE = (AGGREGATES,)
 DIFFERENCES = {
     "network delay": word(0), "network rate": word(1, 0, 1), "queue rate": word(2, 0, 1), "window": word(3), "client's action delay": word(4),
@@ -298,7 +297,7 @@ def a_state(rnd, h, s, name):
     h.say("take_second")
     h.shadow = list(h.second)
     packs(h, due, due)
-    shown = [line for line in show(w)]
+    shown = show(w)
     h.listed("show", len(shown) + 1, shown)
     t = changed(rnd, s, name)
     if t:
@@ -312,6 +311,7 @@ def a_state(rnd, h, s, name):
     h.listed("words_second", len(w) + 1, t.packed() if t else due)
     v = damaged(rnd, w)
     if not accepted(v):
+        packs(h, v, None, len(v) + 4)
         packs(h, v, None)
         h.listed("words_second", len(v) + 1, (t.packed() if t else due)[:len(v)])
 
@@ -340,8 +340,9 @@ def held_states(program, rnd, states):
                 a_state(rnd, h, s, names[at % len(names)])
         out, at = run(program, h.lines), 0
         for n, due, line in h.checks:
-            if out[at:at + n] != due:
-                wrong(f"{line}: {out[at:at + n][:20]} .., due {due[:20]} ..", h.lines)
+            if (got := out[at:at + n]) != due:
+                i = next((i for i, (a, b) in enumerate(zip(got, due)) if a != b), min(len(got), len(due)))
+                wrong(f"{line}, line {i} of its answer: {got[i:i + 1]}, due {due[i:i + 1]}", h.lines)
             at += n
         for name, n in h.counts.items():
             counts[name] = counts.get(name, 0) + n
