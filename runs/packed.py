@@ -286,7 +286,8 @@ def packs(h, w, due, n=None):
     h.listed("words", len(w) + 1, w)
 
 
-def a_state(rnd, h, s, name):
+def a_state(rnd, h, s, names):
+    """All that is asked of a state; of the differences the first of these that it can have."""
     w = s.scattered(rnd)
     due = s.packed()
     assert accepted(w) and accepted(due)
@@ -299,7 +300,7 @@ def a_state(rnd, h, s, name):
     packs(h, due, due)
     shown = show(w)
     h.listed("show", len(shown) + 1, shown)
-    t = changed(rnd, s, name)
+    name, t = next(((name, t) for name in names if (t := changed(rnd, s, name))), (None, None))
     if t:
         other = t.packed()
         assert other != due, name
@@ -337,7 +338,8 @@ def held_states(program, rnd, states):
         for at in range(start, min(start + 100, states)):
             s = drawn(rnd) if at % 4 else State(bases(program, rnd, rnd.randrange(10**9)))
             if accepted(s.packed()):
-                a_state(rnd, h, s, names[at % len(names)])
+                first = at % len(names)
+                a_state(rnd, h, s, (names[first:] + names[:first])[:8])
         out, at = run(program, h.lines), 0
         for n, due, line in h.checks:
             if (got := out[at:at + n]) != due:
