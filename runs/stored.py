@@ -1,7 +1,7 @@
 #!/usr/bin/env python3
 """stored.py LISTS ORACLE OUT: writes OUT/stdin and OUT/stdout, the stored lists of the program forecast.
 
-No answer comes from forecast: each is written here by hand from document 01, docs/LAYOUT.md and docs/CALLS.md,
+No answer comes from forecast: each is written here by hand from documents 01 and 02, docs/LAYOUT.md and docs/CALLS.md,
 or printed by the Rust (ORACLE) on the lists of LISTS (starred.txt, edges.txt, sample.txt). What the Rust cannot say of a
 state, the number of free records, is R less the records that it shows. A comment before each group says which."""
 import pathlib, subprocess, sys

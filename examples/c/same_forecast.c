@@ -96,6 +96,7 @@ static void pack(struct saved *saved)
 
 int main(int count, char **names)
 {
+    int same;
     if (count != 3) {
         fprintf(stderr, "usage: same_forecast FILE FILE\n");
         return NOT_COMPARED;
@@ -108,10 +109,9 @@ int main(int count, char **names)
         fprintf(stderr, "same_forecast: %s has %zu words, %s has %zu\n", one.name, one.words, other.name, other.words);
         return NOT_COMPARED;
     }
-    if (memcmp(one.packed, other.packed, 8 * one.words) != 0) {
-        printf("different\n");
-        return EXIT_FAILURE;
+    same = memcmp(one.packed, other.packed, 8 * one.words) == 0;
+    if (puts(same ? "same" : "different") == EOF || fflush(stdout) != 0) {
+        stop("standard output", strerror(errno));
     }
-    printf("same\n");
-    return EXIT_SUCCESS;
+    return same ? EXIT_SUCCESS : EXIT_FAILURE;
 }

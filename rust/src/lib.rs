@@ -13,6 +13,9 @@
 //! Every call tests the whole block first, so its time grows with R. A list of calls tests it once: [`Core::batch`] and
 //! [`Core::calls`] make any calls as one list, [`Core::run_until`] and [`Core::turns`] make choices and steps by turns.
 //!
+//! [`Core::pack`] writes the packed form of a state, in which equal forecasts have equal words; [`same_forecast`] tells
+//! by it whether two blocks hold the same forecast.
+//!
 //! ```
 //! use maybenot_core::{Choice, Core, Kind, Opening, Side, SimEvent};
 //!
