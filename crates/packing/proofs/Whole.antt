@@ -64,7 +64,9 @@ sum-used c counts (suc n) e = ap₂ (λ (x y : ℕ). x + y) (sum-used c counts n
 table-same : (n : ℕ) (f g : ℕ → ℕ) → ((i : ℕ) → i < n → f i ≡ g i) → table n f ≡ table n g
 unfolding table
 table-same zero f g e = refl
-table-same (suc n) f g e = ap₂ (λ (x : ℕ) (l : List ℕ). x ∷ l) (e 0 (omega arith)) (table-same n (λ i. f (suc i)) (λ i. g (suc i)) (λ i l. e (suc i) (omega arith)))
+table-same (suc n) f g e =
+    ap₂ (λ (x : ℕ) (l : List ℕ). x ∷ l) (e 0 (omega arith))
+    (table-same n (λ i. f (suc i)) (λ i. g (suc i)) (λ i l. e (suc i) (omega arith)))
 
 chain-word : (i : ℕ) → (leb 24 i && ltb i 48) ≡ true → (24 ≤ i) × (i < 48)
 chain-word i e = go (leb 24 i) refl (ltb i 48) refl e
@@ -138,10 +140,14 @@ module _
   used : usedTo (chainsOf rest heads counts) 11 ≡ usedIn c
   used = used-same (chainsOf rest heads counts) c 11 (λ k l. same (suc k) (omega arith))
 
-  pub pack-long : (out : List ℕ) → length out ≡ length w → length (take (length out - 256) (drop 256 out)) ≡ 4 * (usedTo (chainsOf rest heads counts) 11 + getD counts 0 0)
+  pub pack-long :
+      (out : List ℕ) → length out ≡ length w
+      → length (take (length out - 256) (drop 256 out)) ≡ 4 * (usedTo (chainsOf rest heads counts) 11 + getD counts 0 0)
   pack-long out e = rw (rest-part out, length-drop 256 out) (omega (arith, used, all, length-drop 256 w, ok .size .least, ok .size .whole))
 
-  starts-are : (starts : List ℕ) → ((k : ℕ) → k < 12 → getD starts k 0 ≡ startOf counts k) → (k : ℕ) → k < 12 → getD starts k 0 ≡ packedHead c (room rs) k
+  starts-are :
+      (starts : List ℕ) → ((k : ℕ) → k < 12 → getD starts k 0 ≡ startOf counts k)
+      → (k : ℕ) → k < 12 → getD starts k 0 ≡ packedHead c (room rs) k
   starts-are starts e zero l = e 0 l ∙ ap₂ firstFor (ap suc (summed 11 (omega arith))) free ∙ first-is (suc (usedIn c)) (freeIn c (room rs))
     where
       free : getD counts 0 0 ≡ length (freeIn c (room rs))
@@ -153,14 +159,20 @@ module _
   counts-are (suc k) l = counted (suc k) l
 
   pub pack-whole :
-      (starts out ys : List ℕ) → length out ≡ length w → ((k : ℕ) → k < 12 → getD starts k 0 ≡ startOf counts k) → take 256 out ≡ table 256 (headerFrom h starts counts)
-      → ys ≡ packedRecords (chainsOf rest heads counts) (length (take (length out - 256) (drop 256 out)) / 4) → putMid 256 (length out - 256) out ys ≡ packedWords w
+      (starts out ys : List ℕ) → length out ≡ length w → ((k : ℕ) → k < 12 → getD starts k 0 ≡ startOf counts k)
+      → take 256 out ≡ table 256 (headerFrom h starts counts)
+      → ys ≡ packedRecords (chainsOf rest heads counts) (length (take (length out - 256) (drop 256 out)) / 4)
+      → putMid 256 (length out - 256) out ys ≡ packedWords w
   unfolding packedWords packedFrom
   pack-whole starts out ys e es et er =
       back-is out ys
       ∙ ap₂ (λ (x y : List ℕ). x ++ y)
-      (et ∙ table-same 256 (headerFrom h starts counts) (packedWord (λ (i : ℕ). getD w i 0) c (room rs)) (header-same w starts counts c (room rs) (starts-are starts es) counts-are))
-      (er ∙ records-same (chainsOf rest heads counts) c (length (take (length out - 256) (drop 256 out)) / 4) (λ k l. same (suc k) (omega arith)) ∙ ap (packedRecords c) long)
+      (et
+      ∙ table-same 256 (headerFrom h starts counts) (packedWord (λ (i : ℕ). getD w i 0) c (room rs))
+      (header-same w starts counts c (room rs) (starts-are starts es) counts-are))
+      (er
+      ∙ records-same (chainsOf rest heads counts) c (length (take (length out - 256) (drop 256 out)) / 4) (λ k l. same (suc k) (omega arith))
+      ∙ ap (packedRecords c) long)
     where
       long : length (take (length out - 256) (drop 256 out)) / 4 ≡ room rs
       long = rw (rest-part out, length-drop 256 out) (omega (arith, length-drop 256 w, e))
