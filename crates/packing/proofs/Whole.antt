@@ -5,7 +5,7 @@ use mathlib.Core.Bool.{Bool, true, false, _&&_}
 use mathlib.Core.List.{List, [], _∷_, _++_, append-nil}
 use native.Mathlib.Omega.{arith}
 use lib.Dec.{eqb, leb, ltb}
-use lib.ListN.{length, getD, replicate, take, drop, length-drop, drop-of-length-le}
+use lib.ListN.{length, getD, take, drop, length-drop, drop-of-length-le}
 use lib.Seq.{getD-take}
 use borrow.Author.Tests.{ltb-true, leb-true}
 use borrow.Rule.Slice.PartMut.{putMid}
@@ -15,7 +15,7 @@ use Rattle.layout.specs.Records.{headOf, countOf}
 use Rattle.layout.specs.Accepted.{room, Accepted}
 use Rattle.layout.specs.Spare.{spare}
 use Rattle.layout.specs.Opened.{table}
-use Rattle.layout.specs.Packed.{firstOf, chainWords, usedTo, usedWords, usedIn, freeIn, packedRecords, packedHead, packedCount, packedWord, packedFrom, packedWords, chainRecs, headerWord}
+use Rattle.layout.specs.Packed.{firstOf, chainWords, usedTo, usedWords, usedIn, freeIn, packedRecords, packedHead, packedCount, packedWord, packedFrom, packedWords, chainRecs, headerWord, zeroRecs}
 use Rattle.layout.proofs.Deciding.{false-true}
 use Rattle.layout.proofs.Parts.{rest-part}
 use Rattle.layout.proofs.PackedChains.{length-contents}
@@ -43,10 +43,7 @@ module _ (c d : ℕ → List Rec) where
 
   records-same : (r : ℕ) → ((k : ℕ) → k < 11 → c (suc k) ≡ d (suc k)) → packedRecords c r ≡ packedRecords d r
   unfolding packedRecords
-  records-same r e = ap₂ (λ (x y : List ℕ). x ++ y) (words-same 11 e) (ap (λ (u : ℕ). chainWords (suc u) (zeros (r - u))) (used-same 11 e))
-    where
-      zeros : ℕ → List Rec
-      zeros n = replicate n (record { moment = 0; size = 0; tag = 0 })
+  records-same r e = ap₂ (λ (x y : List ℕ). x ++ y) (words-same 11 e) (ap (λ (u : ℕ). chainWords (suc u) (zeroRecs (r - u))) (used-same 11 e))
 
 -- ---- heads by counts
 
