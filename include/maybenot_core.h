@@ -54,9 +54,9 @@ extern "C" {
 
 /*
  * Stack to keep free for a call, in bytes. Measured, not proved: on x86-64 a list of calls takes 1,568 bytes, a choice 1,488,
- * a step 880 and every other call less than 500, arguments, return address and the calling function's own frame included. That
- * is the deepest of 110,000 random calls on a painted stack (runs/stack.c, which runs/bindings runs and holds to this
- * number). No function of the archive calls itself.
+ * a step 880, packing 776 and every other call less than 500, arguments, return address and the calling function's own frame
+ * included. That is the deepest of 110,000 random calls on a painted stack (runs/stack.c, which runs/bindings runs and holds
+ * to this number). No function of the archive calls itself.
  */
 #define MAYBENOT_CORE_STACK_BYTES 2048u
 

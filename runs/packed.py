@@ -8,7 +8,7 @@ Damaged words are refused by the table. Then random lists, with the state packed
 answers. Prints how many of each; exit status 1 where something differs."""
 import random, subprocess, sys
 import generate
-from damaged import KINDS_M, L12, MAX, TOP, accepted, bases, damaged, reserved_of, show, size_ok, some_call
+from damaged import KINDS_M, L12, TOP, accepted, bases, damaged, show, size_ok, some_call
 
 EVENTS = (1, 2, 3, 4, 6, 7, 8, 9)
 STAMPS = (5, 10)
@@ -220,7 +220,6 @@ def other_side(rnd, s):
         s.chains[to].insert(at, (moment, length, tag - k + to))
 
 
-ALL = (*EVENTS, *STAMPS, AGGREGATES)
 ONE = (AGGREGATES,)
 DIFFERENCES = {
     "network delay": word(0), "network rate": word(1, 0, 1), "queue rate": word(2, 0, 1), "window": word(3), "client's action delay": word(4),
@@ -287,7 +286,8 @@ def packs(h, w, due, n=None):
     h.listed("words", len(w) + 1, w)
 
 
-def a_state(rnd, h, s, name):
+def a_state(rnd, h, s, names):
+    """All that is asked of a state; of the differences the first of these that it can have."""
     w = s.scattered(rnd)
     due = s.packed()
     assert accepted(w) and accepted(due)
@@ -298,9 +298,9 @@ def a_state(rnd, h, s, name):
     h.say("take_second")
     h.shadow = list(h.second)
     packs(h, due, due)
-    shown = [line for line in show(w)]
+    shown = show(w)
     h.listed("show", len(shown) + 1, shown)
-    t = changed(rnd, s, name)
+    name, t = next(((name, t) for name in names if (t := changed(rnd, s, name))), (None, None))
     if t:
         other = t.packed()
         assert other != due, name
@@ -312,6 +312,7 @@ def a_state(rnd, h, s, name):
     h.listed("words_second", len(w) + 1, t.packed() if t else due)
     v = damaged(rnd, w)
     if not accepted(v):
+        packs(h, v, None, len(v) + 4)
         packs(h, v, None)
         h.listed("words_second", len(v) + 1, (t.packed() if t else due)[:len(v)])
 
@@ -337,11 +338,13 @@ def held_states(program, rnd, states):
         for at in range(start, min(start + 100, states)):
             s = drawn(rnd) if at % 4 else State(bases(program, rnd, rnd.randrange(10**9)))
             if accepted(s.packed()):
-                a_state(rnd, h, s, names[at % len(names)])
+                first = at % len(names)
+                a_state(rnd, h, s, (names[first:] + names[:first])[:8])
         out, at = run(program, h.lines), 0
         for n, due, line in h.checks:
-            if out[at:at + n] != due:
-                wrong(f"{line}: {out[at:at + n][:20]} .., due {due[:20]} ..", h.lines)
+            if (got := out[at:at + n]) != due:
+                i = next((i for i, (a, b) in enumerate(zip(got, due)) if a != b), min(len(got), len(due)))
+                wrong(f"{line}, line {i} of its answer: {got[i:i + 1]}, due {due[i:i + 1]}", h.lines)
             at += n
         for name, n in h.counts.items():
             counts[name] = counts.get(name, 0) + n
@@ -422,8 +425,9 @@ def taken_over(program, rnd, lists):
 
 
 def main():
-    if len(sys.argv) != 4:
-        sys.exit(__doc__)
+    if len(sys.argv) != 4 or not sys.argv[3].isdigit():
+        print(__doc__, file=sys.stderr)
+        sys.exit(2)
     program, seed, states = sys.argv[1], sys.argv[2], int(sys.argv[3])
     rnd = random.Random(f"packed {seed}")
     counts = held_states(program, rnd, states)

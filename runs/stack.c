@@ -18,14 +18,15 @@
 #define PAINTED (32u * 1024u)
 #define PAINT 0xa5
 #define LARGE MAYBENOT_CORE_WORDS(MAYBENOT_CORE_MAX_RECORDS)
-#define CALLS 9
+#define CALLS 10
 #define ROWS 8
 
 static const char *const NAMES[CALLS] = {
-    "open", "push_sim", "set_action", "clear_action", "set_timer", "clear_timer", "pick_next", "sim_network_stack", "calls",
+    "open", "push_sim", "set_action", "clear_action", "set_timer", "clear_timer", "pick_next", "sim_network_stack", "pack", "calls",
 };
 
 static uint64_t block[LARGE];
+static uint64_t second[LARGE];
 static uint64_t out[MAYBENOT_CORE_ANSWER_WORDS];
 static uint64_t rows[ROWS][MAYBENOT_CORE_ROW_WORDS];
 static uint64_t answers[ROWS][MAYBENOT_CORE_ROW_WORDS];
@@ -111,6 +112,8 @@ static uint64_t made(size_t call, size_t words)
     case 7:
         return maybenot_core_sim_network_stack(block, words, chance(2000), kind, number(), chance(3), chance(2), flags & 1,
                                                flags & 2, flags & 4, chance(3), out, MAYBENOT_CORE_STEP_WORDS);
+    case 8:
+        return maybenot_core_pack(block, words, second, words);
     default:
         return list(words);
     }

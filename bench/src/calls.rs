@@ -57,6 +57,11 @@ pub fn step(w: &mut [u64], time: u64, e: &Event, out: &mut [u64; 1]) -> u64 {
     }
 }
 
+pub fn pack(w: &[u64], second: &mut [u64]) -> u64 {
+    // SAFETY: pointers and lengths are those of two slices that do not overlap.
+    unsafe { sys::maybenot_core_pack(w.as_ptr(), w.len(), second.as_mut_ptr(), second.len()) }
+}
+
 /// What is timed beside the walk.
 #[derive(Clone, Copy, PartialEq)]
 pub enum Call {
@@ -73,9 +78,11 @@ pub enum Call {
     PickEnd,
     /// a packet above the limit: its stamp and its arrival, and the test for aggregates
     Step,
+    /// every word of a second block
+    Pack,
 }
 
-pub const ALL: [Call; 7] = [
+pub const ALL: [Call; 8] = [
     Call::Accepted,
     Call::Push,
     Call::PickOne,
@@ -83,6 +90,7 @@ pub const ALL: [Call; 7] = [
     Call::PickThree,
     Call::PickEnd,
     Call::Step,
+    Call::Pack,
 ];
 
 impl Call {
@@ -95,6 +103,7 @@ impl Call {
             Call::PickThree => "pick 3",
             Call::PickEnd => "pick end",
             Call::Step => "step",
+            Call::Pack => "pack",
         }
     }
 
@@ -103,11 +112,17 @@ impl Call {
         let large = records >= 1984;
         match self {
             Call::Accepted => 1.5,
+            Call::Pack => 2.5,
             Call::PickThree | Call::PickEnd if large => 1.7,
             Call::PickThree | Call::PickEnd => 2.0,
             _ if large => 1.3,
             _ => 1.7,
         }
+    }
+
+    /// Whether it leaves the block as it was.
+    pub fn reads(self) -> bool {
+        matches!(self, Call::Accepted | Call::Pack)
     }
 
     /// The rounds that a choice makes.
@@ -133,13 +148,14 @@ impl Call {
         }
     }
 
-    /// Makes the call; the answer's words are added up.
+    /// Makes the call; the answer's words are added up. Packing writes into the second block.
     #[inline(always)]
-    pub fn make(self, w: &mut [u64], e: &Event) -> u64 {
+    pub fn make(self, w: &mut [u64], second: &mut [u64], e: &Event) -> u64 {
         let mut out = [0; 10];
         match self {
             Call::Accepted => accepted(w) as u64,
             Call::Push => push(w, e),
+            Call::Pack => pack(w, second),
             Call::Step => {
                 let mut yes = [0];
                 let n = step(w, START + 500, e, &mut yes);

@@ -1,5 +1,5 @@
-//! Times acceptance, a lone push, a lone choice and a lone network step, each as
-//! a ratio to one plain walk of the same chains in the same run.
+//! Times acceptance, a lone push, a lone choice, a lone network step and a lone
+//! packing, each as a ratio to one plain walk of the same chains in the same run.
 //!
 //!   bench [ROUNDS]
 //!
@@ -40,6 +40,7 @@ fn walk(block: &[u64]) -> u64 {
 struct Case {
     call: Call,
     block: Block,
+    second: Block,
     event: Event,
     undo: Vec<(usize, u64)>,
     /// nanoseconds of one call in each round, and of the walk beside it
@@ -52,7 +53,8 @@ impl Case {
         assert!(calls::accepted(block.words()), "the block is not accepted");
         let before = block.words().to_vec();
         let event = call.event(plan);
-        call.make(block.words_mut(), &event);
+        let mut second = Block::new(before.len());
+        call.make(block.words_mut(), second.words_mut(), &event);
         let left = block.words();
         assert_eq!(
             left[17] - before[17],
@@ -63,15 +65,16 @@ impl Case {
         assert!(calls::accepted(left), "the block left is not accepted");
         let changed = (0..left.len()).filter(|&i| left[i] != before[i]);
         let undo: Vec<_> = changed.map(|i| (i, before[i])).collect();
+        assert!(undo.is_empty() == call.reads(), "{}: refused", call.name());
         assert!(
-            undo.is_empty() == (call == Call::Accepted),
-            "{}: refused",
-            call.name()
+            call != Call::Pack || calls::accepted(second.words()),
+            "what is packed is not accepted"
         );
         block.words_mut().copy_from_slice(&before);
         Case {
             call,
             block,
+            second,
             event,
             undo,
             times: Vec::new(),
@@ -81,9 +84,13 @@ impl Case {
     /// So many calls, each undone: nanoseconds for one.
     fn calls(&mut self, times: usize) -> f64 {
         let w = self.block.words_mut();
+        let second = self.second.words_mut();
         let start = Instant::now();
         for _ in 0..times {
-            black_box(self.call.make(black_box(&mut *w), &self.event));
+            black_box(
+                self.call
+                    .make(black_box(&mut *w), black_box(&mut *second), &self.event),
+            );
             for &(i, v) in &self.undo {
                 w[i] = v;
             }
@@ -246,7 +253,7 @@ fn main() {
     one_chain(rounds);
     let said = if within { "within" } else { "not within" };
     println!(
-        "spread blocks, R >= 256: {said} the goals (accepted 1.5; push, step and choices of one round 1.7, from R = 1,984 on 1.3; choices of more rounds 2.0, from R = 1,984 on 1.7)"
+        "spread blocks, R >= 256: {said} the goals (accepted 1.5; push, step and choices of one round 1.7, from R = 1,984 on 1.3; choices of more rounds 2.0, from R = 1,984 on 1.7; packing 2.5)"
     );
     std::process::exit(!within as i32);
 }

@@ -8,13 +8,21 @@
 #define PAGE 4096
 #define CANARY 0xa5
 
+static void allow(void *pages, size_t bytes, int what) {
+  if (mprotect(pages, bytes, what)) {
+    perror("mprotect");
+    exit(2);
+  }
+}
+
 struct place place_for(size_t length) {
   size_t bytes = length ? (8 * length + PAGE - 1) / PAGE * PAGE : PAGE;
   unsigned char *all = mmap(0, bytes + 2 * PAGE, PROT_NONE, MAP_PRIVATE | MAP_ANONYMOUS, -1, 0);
-  if (all == MAP_FAILED || mprotect(all + PAGE, bytes, PROT_READ | PROT_WRITE)) {
+  if (all == MAP_FAILED) {
     perror("mmap");
     exit(2);
   }
+  allow(all + PAGE, bytes, PROT_READ | PROT_WRITE);
   return (struct place){.pages = all + PAGE, .bytes = bytes, .length = length};
 }
 
@@ -25,8 +33,19 @@ void lend(struct place *p, size_t length, int upper) {
   free(p->lent);
   p->lent = malloc(8 * length);
 #else
+  if (p->read) allow(p->pages, p->bytes, PROT_READ | PROT_WRITE);
+  p->read = 0;
   memset(p->pages, CANARY, p->bytes);
   p->lent = (word *)(upper ? p->pages + p->bytes - 8 * length : p->pages);
+#endif
+}
+
+void only_read(struct place *p) {
+#ifndef EXACT
+  allow(p->pages, p->bytes, PROT_READ);
+  p->read = 1;
+#else
+  (void)p;
 #endif
 }
 

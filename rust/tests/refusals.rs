@@ -242,7 +242,7 @@ fn refusals_have_a_meaning() {
     let text = refusal.to_string();
     assert_eq!(
         text,
-        "refusal 1: the length is not 256 + 4R words, R from 1 to 65,535"
+        "refusal 1: the length is not 256 + 4R words, R from 1 to 65,535, or a second block has another"
     );
     let error: Box<dyn Error + Send + Sync> = refusal.into();
     assert_eq!(error.to_string(), text);

@@ -5,12 +5,14 @@ use crate::lists::line::{line_of, Line};
 use crate::lists::random::Random;
 use crate::lists::show::event_words;
 use crate::lists::WORDS;
-use maybenot_core::{Answer, Call, Choice, Core, SimEvent};
+use maybenot_core::{pack, Answer, Call, Choice, Core, SimEvent};
 
-/// The words that the list works on, as `forecast` has them.
+/// The words that the list works on and those of the second block, as `forecast` has them.
 struct State {
     words: Vec<u64>,
     lent: usize,
+    second: Vec<u64>,
+    lent_second: usize,
 }
 
 impl State {
@@ -34,7 +36,18 @@ impl State {
                 // a refused opening leaves the words, as it does in `forecast`
                 let _ = Core::open_in(lent, &opening);
             }
-            Line::Bad | Line::Show | Line::Words => (),
+            Line::LendSecond(n) => self.lent_second = n,
+            Line::WordSecond(at, value) => self.second[at] = value,
+            Line::TakeSecond => {
+                self.words.copy_from_slice(&self.second);
+                self.lent = self.lent_second;
+            }
+            Line::Pack => {
+                // a refusal leaves the second block
+                let second = &mut self.second[..self.lent_second];
+                let _ = pack(&self.words[..self.lent], second);
+            }
+            Line::Bad | Line::Show | Line::Words | Line::WordsSecond => (),
         }
         None
     }
@@ -63,6 +76,8 @@ pub fn with_steps(text: &[u8], mut random: Random) -> Vec<String> {
     let mut state = State {
         words: vec![0; WORDS],
         lent: WORDS,
+        second: vec![0; WORDS],
+        lent_second: WORDS,
     };
     let mut lines = Vec::new();
     for bytes in text.split(|b| *b == b'\n') {

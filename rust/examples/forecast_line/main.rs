@@ -12,7 +12,9 @@ mod picture;
 mod run;
 mod table;
 
-use maybenot_core::{Action, Opening, Refusal, Side, SideOpening};
+use maybenot_core::{
+    same_forecast, Action, Core, Kind, Opening, Refusal, Side, SideOpening, SimEvent,
+};
 use run::{Plan, Repeated, Run};
 use std::process::ExitCode;
 
@@ -112,15 +114,47 @@ fn forecast() -> Result<Vec<Run>, Refusal> {
     plans().into_iter().map(|p| run::run(&line(), p)).collect()
 }
 
+/// The line with the packet list handed in, each side's first packet first or last.
+fn handed_in(backwards: bool) -> Result<Core<'static>, Refusal> {
+    let mut core = Core::with_records(64, &line())?;
+    for side in Side::BOTH {
+        let mut moments = listed(side);
+        if backwards {
+            moments.reverse();
+        }
+        for moment in moments {
+            core.push_sim(&SimEvent::new(Kind::NORMAL_SENT, side, moment))?;
+        }
+    }
+    Ok(core)
+}
+
+/// What two routers hold that were handed the packet list in another order, as support staff would compare their blocks.
+fn compared() -> Result<String, Refusal> {
+    let (one, other) = (handed_in(false)?, handed_in(true)?);
+    let words = match one.words() == other.words() {
+        true => "the same words",
+        false => "other words",
+    };
+    let forecast = match same_forecast(one.words(), other.words())? {
+        true => "the same forecast",
+        false => "another forecast",
+    };
+    Ok(format!(
+        "The packet list handed in backwards: {words}, {forecast}."
+    ))
+}
+
 fn main() -> ExitCode {
-    let runs = match forecast() {
-        Ok(runs) => runs,
+    let (runs, compared) = match forecast().and_then(|runs| Ok((runs, compared()?))) {
+        Ok(made) => made,
         Err(refusal) => {
             eprintln!("forecast_line: {refusal}");
             return ExitCode::FAILURE;
         }
     };
     print!("{}", table::tables(&runs));
+    println!("\n{compared}");
     if let Some(path) = std::env::args_os().nth(1) {
         if let Err(why) = std::fs::write(&path, picture::picture(&runs)) {
             eprintln!("forecast_line: {}: {why}", path.to_string_lossy());
