@@ -2,10 +2,10 @@
 use Prim.Native.Nat.{ℕ, zero, suc, _+_, _-_, _*_, _/_, _%_, _≤_, _<_}
 use mathlib.Core.Path.{_≡_, refl, sym, ap, ap₂, _∙_}
 use mathlib.Core.Bool.{Bool, true, false, _&&_}
-use mathlib.Core.List.{List, [], _∷_, _++_, append-nil}
+use mathlib.Core.List.{List, [], _∷_, _++_}
 use native.Mathlib.Omega.{arith}
 use lib.Dec.{eqb, leb, ltb}
-use lib.ListN.{length, getD, take, drop, length-drop, drop-of-length-le}
+use lib.ListN.{length, getD, take, drop, length-drop}
 use lib.Seq.{getD-take}
 use borrow.Author.Tests.{ltb-true, leb-true}
 use borrow.Rule.Slice.PartMut.{putMid}
@@ -17,7 +17,7 @@ use Rattle.layout.specs.Spare.{spare}
 use Rattle.layout.specs.Opened.{table}
 use Rattle.layout.specs.Packed.{firstOf, chainWords, usedTo, usedWords, usedIn, freeIn, packedRecords, packedHead, packedCount, packedWord, packedFrom, packedWords, chainRecs, headerWord, zeroRecs}
 use Rattle.layout.proofs.Deciding.{false-true}
-use Rattle.layout.proofs.Parts.{rest-part}
+use Rattle.layout.proofs.Parts.{back-is, rest-part}
 use Rattle.layout.proofs.PackedChains.{length-contents}
 use Rattle.layout.proofs.PackedBack.{length-free}
 use Rattle.layout.proofs.PackedGood.{used-all}
@@ -90,11 +90,6 @@ module _
       go false true e false = let q = chain-word i e in counts-are ((i - 24) / 2) (omega arith)
 
 -- ---- an accepted block
-
-back-is : (xs ys : List ℕ) → putMid 256 (length xs - 256) xs ys ≡ take 256 xs ++ ys
-back-is xs ys =
-    ap (λ (r : List ℕ). take 256 xs ++ (ys ++ r)) (drop-of-length-le (drop 256 xs) {i = length xs - 256} (omega (arith, length-drop 256 xs)))
-    ∙ ap (λ (r : List ℕ). take 256 xs ++ r) (append-nil ys)
 
 module _
     (w heads counts : List ℕ) (ok : Accepted w) (eh : (k : ℕ) → k < 12 → getD heads k 0 ≡ headOf (take 256 w) k)
