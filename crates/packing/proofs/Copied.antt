@@ -106,9 +106,14 @@ no-more : (rs : List ℕ) (h p : ℕ) (xs : List ℕ) → xs ++ chainWords p (co
 unfolding nodes chainWords
 no-more rs h p xs = append-nil xs
 
-one-more : (rs : List ℕ) (n h p : ℕ) → chainWords p (contents rs (suc n) h) ≡ linkOf (suc n) p ∷ momentOf rs h ∷ lengthOf rs h ∷ tagOf rs h ∷ chainWords (suc p) (contents rs n (nextOf rs h))
+one-more :
+    (rs : List ℕ) (n h p : ℕ)
+    → chainWords p (contents rs (suc n) h)
+    ≡ linkOf (suc n) p ∷ momentOf rs h ∷ lengthOf rs h ∷ tagOf rs h ∷ chainWords (suc p) (contents rs n (nextOf rs h))
 unfolding chainWords nodes recAt
-one-more rs n h p = ap (λ a. a ∷ momentOf rs h ∷ lengthOf rs h ∷ tagOf rs h ∷ chainWords (suc p) (contents rs n (nextOf rs h))) (sym (link-is rs n (nextOf rs h) p))
+one-more rs n h p =
+    ap (λ a. a ∷ momentOf rs h ∷ lengthOf rs h ∷ tagOf rs h ∷ chainWords (suc p) (contents rs n (nextOf rs h)))
+    (sym (link-is rs n (nextOf rs h) p))
 
 module _ (rest goal out₀ : List ℕ) (end : ℕ) (out : List ℕ) (n h p : ℕ) where
   pub copy-in : 0 < n → Copies rest goal out₀ end out n h p → In out p
@@ -138,8 +143,11 @@ step rest goal out₀ end out n h p c = record {
   ends = omega (arith, c .ends);
   fits = omega (arith, c .fits, long);
   len = long ∙ c .len;
-  whole = ap (λ x. x ++ chainWords (suc p) (contents rest n (nextOf rest h))) (take-filled out p (linkOf (suc n) p) (momentOf rest h) (lengthOf rest h) (tagOf rest h) i)
-      ∙ append-assoc (take (4 * p - 4) out) (linkOf (suc n) p ∷ momentOf rest h ∷ lengthOf rest h ∷ tagOf rest h ∷ []) (chainWords (suc p) (contents rest n (nextOf rest h)))
+  whole =
+      ap (λ x. x ++ chainWords (suc p) (contents rest n (nextOf rest h)))
+      (take-filled out p (linkOf (suc n) p) (momentOf rest h) (lengthOf rest h) (tagOf rest h) i)
+      ∙ append-assoc (take (4 * p - 4) out) (linkOf (suc n) p ∷ momentOf rest h ∷ lengthOf rest h ∷ tagOf rest h ∷ [])
+      (chainWords (suc p) (contents rest n (nextOf rest h)))
       ∙ ap (λ x. take (4 * p - 4) out ++ x) (sym (one-more rest n h p))
       ∙ c .whole;
 }
@@ -150,7 +158,9 @@ step rest goal out₀ end out n h p c = record {
     long : length (filled out p (linkOf (suc n) p) (momentOf rest h) (lengthOf rest h) (tagOf rest h)) ≡ length out
     long = length-filled out p (linkOf (suc n) p) (momentOf rest h) (lengthOf rest h) (tagOf rest h)
 
-pub copy-turn : (rest goal out₀ : List ℕ) (end : ℕ) (out out′ : List ℕ) (n h p next h′ : ℕ) → 0 < n → next ≡ linkOf n p → out′ ≡ copied rest h out p next → h′ ≡ nextOf rest h
+pub copy-turn :
+    (rest goal out₀ : List ℕ) (end : ℕ) (out out′ : List ℕ) (n h p next h′ : ℕ) → 0 < n → next ≡ linkOf n p → out′ ≡ copied rest h out p next
+    → h′ ≡ nextOf rest h
     → Copies rest goal out₀ end out n h p → Copies rest goal out₀ end out′ (n - 1) h′ (p + 1)
 copy-turn rest goal out₀ end out out′ zero h p next h′ l en eo eh c = absurd (not-suc-le-zero l)
 copy-turn rest goal out₀ end out out′ (suc n) h p next h′ l en eo eh c = rw (eo, en, eh, sub-one, add-one) (step rest goal out₀ end out n h p c)

@@ -1,12 +1,12 @@
 -- The header written: each of its words, and the heads and counts that stand in it. Assumes nothing.
 use Prim.Native.Nat.{ℕ, zero, suc, _+_, _-_, _*_, _/_, _%_, _≤_, _<_}
 use mathlib.Core.Path.{_≡_, refl, sym, ap, subst, _∙_}
-use mathlib.Core.Bool.{Bool, true, false}
+use mathlib.Core.Bool.{Bool, true, false, _&&_, _||_}
 use mathlib.Core.List.{List}
 use native.Mathlib.Numerals.{add-one}
 use native.Mathlib.Omega.{arith}
 use native.Mathlib.Decide.{ℕ-discrete}
-use lib.Dec.{ltb}
+use lib.Dec.{leb, ltb}
 use lib.ListN.{length, getD, set, take, length-set}
 use lib.Seq.{getD-set-same, getD-set-other, getD-take, length-take-le, ext-getD}
 use borrow.Author.Tests.{lt-ltb, le-ltb, le-leb, lt-leb, eq-eqb, ne-eqb}
@@ -19,29 +19,29 @@ use Rattle.packing.specs.Heads.{sumTo, firstFor, startOf, headerFrom, Re
 
 -- ---- the words without a meaning, by their bounds
 
-pub spare-settings : (i : ℕ) → i < 18 → false ≡ spare i
+pub at-last : (i : ℕ) → 192 ≤ i → ltb i 256 ≡ spare i
 unfolding spare
-spare-settings i l = rw (lt-leb 18 i l, lt-leb 48 i (omega arith), lt-leb 192 i (omega arith)) refl
+at-last i a = rw (le-leb 18 i (omega arith), le-ltb i 24 (omega arith), le-leb 48 i (omega arith), le-ltb i 64 (omega arith), le-leb 192 i a) refl
 
-pub spare-kept : (i : ℕ) → 18 ≤ i → i < 24 → true ≡ spare i
+pub at-slots : (i : ℕ) → i < 192 → 64 ≤ i → false ≡ spare i
 unfolding spare
-spare-kept i a b = rw (le-leb 18 i a, lt-ltb i 24 b) refl
+at-slots i a b = rw (le-leb 18 i (omega arith), le-ltb i 24 (omega arith), le-leb 48 i (omega arith), le-ltb i 64 b, lt-leb 192 i a) refl
 
-pub spare-heads : (i : ℕ) → 24 ≤ i → i < 48 → false ≡ spare i
+pub at-after : (i : ℕ) → i < 64 → 48 ≤ i → true ≡ spare i
 unfolding spare
-spare-heads i a b = rw (le-leb 18 i (omega arith), le-ltb i 24 a, lt-leb 48 i b, lt-leb 192 i (omega arith)) refl
+at-after i a b = rw (le-leb 18 i (omega arith), le-ltb i 24 (omega arith), le-leb 48 i b, lt-ltb i 64 a) refl
 
-pub spare-after : (i : ℕ) → 48 ≤ i → i < 64 → true ≡ spare i
+pub at-heads : (i : ℕ) → i < 48 → 24 ≤ i → false ≡ spare i
 unfolding spare
-spare-after i a b = rw (le-leb 18 i (omega arith), le-ltb i 24 (omega arith), le-leb 48 i a, lt-ltb i 64 b) refl
+at-heads i a b = rw (le-leb 18 i (omega arith), le-ltb i 24 b, lt-leb 48 i a, lt-leb 192 i (omega arith)) refl
 
-pub spare-slots : (i : ℕ) → 64 ≤ i → i < 192 → false ≡ spare i
+pub at-first : (i : ℕ) → i < 24 → leb 18 i ≡ spare i
 unfolding spare
-spare-slots i a b = rw (le-leb 18 i (omega arith), le-ltb i 24 (omega arith), le-leb 48 i (omega arith), le-ltb i 64 a, lt-leb 192 i b) refl
-
-pub spare-end : (i : ℕ) → 192 ≤ i → ltb i 256 ≡ spare i
-unfolding spare
-spare-end i a = rw (le-leb 18 i (omega arith), le-ltb i 24 (omega arith), le-leb 48 i (omega arith), le-ltb i 64 (omega arith), le-leb 192 i a) refl
+at-first i a = rw (lt-ltb i 24 a, lt-leb 48 i (omega arith), lt-leb 192 i (omega arith)) (only (leb 18 i))
+  where
+    only : (b : Bool) → b ≡ (b && true) || (false && ltb i 64) || (false && ltb i 256)
+    only true = refl
+    only false = refl
 
 -- ---- a word of the header
 
@@ -54,17 +54,18 @@ module _ (h heads counts : List ℕ) (i : ℕ) where
   unfolding headerWord
   word-before b e t l = rw (sym e ∙ t, lt-leb 24 i l) refl
 
-  pub word-after : (b : Bool) → b ≡ spare i → b ≡ false → 48 ≤ i → getD h i 0 ≡ headerFrom h heads counts i
+  pub word-after : (b : Bool) → b ≡ spare i → b ≡ false → 24 ≤ i → 12 ≤ (i - 24) / 2 → getD h i 0 ≡ headerFrom h heads counts i
   unfolding headerWord
-  word-after b e t l = rw (sym e ∙ t, le-leb 24 i (omega arith), le-ltb i 48 l) refl
+  word-after b e t l m = rw (sym e ∙ t, le-leb 24 i l, le-ltb i 48 (omega arith)) refl
 
-  pub word-head : (b : Bool) → b ≡ spare i → b ≡ false → 24 ≤ i → i < 48 → i % 2 ≡ 0 → getD heads ((i - 24) / 2) 0 ≡ headerFrom h heads counts i
+  pub word-head : (b : Bool) → b ≡ spare i → b ≡ false → 24 ≤ i → (i - 24) / 2 < 12 → i % 2 ≡ 0 → getD heads ((i - 24) / 2) 0 ≡ headerFrom h heads counts i
   unfolding headerWord
-  word-head b e t l m z = rw (sym e ∙ t, le-leb 24 i l, lt-ltb i 48 m, eq-eqb (i % 2) 0 z) refl
+  word-head b e t l m z = rw (sym e ∙ t, le-leb 24 i l, lt-ltb i 48 (omega arith), eq-eqb (i % 2) 0 z) refl
 
-  pub word-count : (b : Bool) → b ≡ spare i → b ≡ false → 24 ≤ i → i < 48 → (i % 2 ≡ 0 → ⊥) → getD counts ((i - 24) / 2) 0 ≡ headerFrom h heads counts i
+  pub word-count :
+      (b : Bool) → b ≡ spare i → b ≡ false → 24 ≤ i → (i - 24) / 2 < 12 → (i % 2 ≡ 0 → ⊥) → getD counts ((i - 24) / 2) 0 ≡ headerFrom h heads counts i
   unfolding headerWord
-  word-count b e t l m z = rw (sym e ∙ t, le-leb 24 i l, lt-ltb i 48 m, ne-eqb (i % 2) 0 z) refl
+  word-count b e t l m z = rw (sym e ∙ t, le-leb 24 i l, lt-ltb i 48 (omega arith), ne-eqb (i % 2) 0 z) refl
 
 -- ---- words written one after another
 
@@ -123,7 +124,9 @@ module _ (h heads counts out₀ : List ℕ) where
     words = one-more (headerFrom h heads counts) out i v (omega (arith, c .len)) e (c .words);
   }
 
-  pub header-all : (out : List ℕ) (i : ℕ) → 256 ≤ length out₀ → 256 ≤ i → HeaderTo h heads counts out₀ out i → take 256 out ≡ table 256 (headerFrom h heads counts)
+  pub header-all :
+      (out : List ℕ) (i : ℕ) → 256 ≤ length out₀ → 256 ≤ i → HeaderTo h heads counts out₀ out i
+      → take 256 out ≡ table 256 (headerFrom h heads counts)
   header-all out i b l c = all-words (headerFrom h heads counts) out 256 (omega (arith, c .len)) (λ j q. c .words j (omega arith))
 
 -- ---- heads
@@ -160,7 +163,9 @@ pub starts-none : (counts starts : List ℕ) → length starts ≡ 12 → Starts
 unfolding sumTo
 starts-none counts starts e = record { most = omega arith; long = e; next = refl; heads = λ k q. absurd (omega arith) }
 
-pub starts-fit : (counts starts : List ℕ) (d place : ℕ) → sumTo counts 11 ≤ 65535 → d < 11 → Starts counts starts d place → place + getD counts (d + 1) 0 ≤ 65536
+pub starts-fit :
+    (counts starts : List ℕ) (d place : ℕ) → sumTo counts 11 ≤ 65535 → d < 11 → Starts counts starts d place
+    → place + getD counts (d + 1) 0 ≤ 65536
 starts-fit counts starts d place m l c = rw add-one (omega (arith, c .next, sum-next counts d, sum-least counts (suc d) 11 (omega arith)))
 
 pub starts-turn :

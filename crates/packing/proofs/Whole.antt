@@ -2,10 +2,10 @@
 use Prim.Native.Nat.{ℕ, zero, suc, _+_, _-_, _*_, _/_, _%_, _≤_, _<_}
 use mathlib.Core.Path.{_≡_, refl, sym, ap, ap₂, _∙_}
 use mathlib.Core.Bool.{Bool, true, false, _&&_}
-use mathlib.Core.List.{List, [], _∷_, _++_, append-nil}
+use mathlib.Core.List.{List, [], _∷_, _++_}
 use native.Mathlib.Omega.{arith}
 use lib.Dec.{eqb, leb, ltb}
-use lib.ListN.{length, getD, replicate, take, drop, length-drop, drop-of-length-le}
+use lib.ListN.{length, getD, take, drop, length-drop}
 use lib.Seq.{getD-take}
 use borrow.Author.Tests.{ltb-true, leb-true}
 use borrow.Rule.Slice.PartMut.{putMid}
@@ -15,9 +15,9 @@ use Rattle.layout.specs.Records.{headOf, countOf}
 use Rattle.layout.specs.Accepted.{room, Accepted}
 use Rattle.layout.specs.Spare.{spare}
 use Rattle.layout.specs.Opened.{table}
-use Rattle.layout.specs.Packed.{firstOf, chainWords, usedTo, usedWords, usedIn, freeIn, packedRecords, packedHead, packedCount, packedWord, packedFrom, packedWords, chainRecs, headerWord}
+use Rattle.layout.specs.Packed.{firstOf, chainWords, usedTo, usedWords, usedIn, freeIn, packedRecords, packedHead, packedCount, packedWord, packedFrom, packedWords, chainRecs, headerWord, zeroRecs}
 use Rattle.layout.proofs.Deciding.{false-true}
-use Rattle.layout.proofs.Parts.{rest-part}
+use Rattle.layout.proofs.Parts.{back-is, rest-part}
 use Rattle.layout.proofs.PackedChains.{length-contents}
 use Rattle.layout.proofs.PackedBack.{length-free}
 use Rattle.layout.proofs.PackedGood.{used-all}
@@ -43,10 +43,7 @@ module _ (c d : ℕ → List Rec) where
 
   records-same : (r : ℕ) → ((k : ℕ) → k < 11 → c (suc k) ≡ d (suc k)) → packedRecords c r ≡ packedRecords d r
   unfolding packedRecords
-  records-same r e = ap₂ (λ (x y : List ℕ). x ++ y) (words-same 11 e) (ap (λ (u : ℕ). chainWords (suc u) (zeros (r - u))) (used-same 11 e))
-    where
-      zeros : ℕ → List Rec
-      zeros n = replicate n (record { moment = 0; size = 0; tag = 0 })
+  records-same r e = ap₂ (λ (x y : List ℕ). x ++ y) (words-same 11 e) (ap (λ (u : ℕ). chainWords (suc u) (zeroRecs (r - u))) (used-same 11 e))
 
 -- ---- heads by counts
 
@@ -64,7 +61,9 @@ sum-used c counts (suc n) e = ap₂ (λ (x y : ℕ). x + y) (sum-used c counts n
 table-same : (n : ℕ) (f g : ℕ → ℕ) → ((i : ℕ) → i < n → f i ≡ g i) → table n f ≡ table n g
 unfolding table
 table-same zero f g e = refl
-table-same (suc n) f g e = ap₂ (λ (x : ℕ) (l : List ℕ). x ∷ l) (e 0 (omega arith)) (table-same n (λ i. f (suc i)) (λ i. g (suc i)) (λ i l. e (suc i) (omega arith)))
+table-same (suc n) f g e =
+    ap₂ (λ (x : ℕ) (l : List ℕ). x ∷ l) (e 0 (omega arith))
+    (table-same n (λ i. f (suc i)) (λ i. g (suc i)) (λ i l. e (suc i) (omega arith)))
 
 chain-word : (i : ℕ) → (leb 24 i && ltb i 48) ≡ true → (24 ≤ i) × (i < 48)
 chain-word i e = go (leb 24 i) refl (ltb i 48) refl e
@@ -91,11 +90,6 @@ module _
       go false true e false = let q = chain-word i e in counts-are ((i - 24) / 2) (omega arith)
 
 -- ---- an accepted block
-
-back-is : (xs ys : List ℕ) → putMid 256 (length xs - 256) xs ys ≡ take 256 xs ++ ys
-back-is xs ys =
-    ap (λ (r : List ℕ). take 256 xs ++ (ys ++ r)) (drop-of-length-le (drop 256 xs) {i = length xs - 256} (omega (arith, length-drop 256 xs)))
-    ∙ ap (λ (r : List ℕ). take 256 xs ++ r) (append-nil ys)
 
 module _
     (w heads counts : List ℕ) (ok : Accepted w) (eh : (k : ℕ) → k < 12 → getD heads k 0 ≡ headOf (take 256 w) k)
@@ -138,10 +132,14 @@ module _
   used : usedTo (chainsOf rest heads counts) 11 ≡ usedIn c
   used = used-same (chainsOf rest heads counts) c 11 (λ k l. same (suc k) (omega arith))
 
-  pub pack-long : (out : List ℕ) → length out ≡ length w → length (take (length out - 256) (drop 256 out)) ≡ 4 * (usedTo (chainsOf rest heads counts) 11 + getD counts 0 0)
+  pub pack-long :
+      (out : List ℕ) → length out ≡ length w
+      → length (take (length out - 256) (drop 256 out)) ≡ 4 * (usedTo (chainsOf rest heads counts) 11 + getD counts 0 0)
   pack-long out e = rw (rest-part out, length-drop 256 out) (omega (arith, used, all, length-drop 256 w, ok .size .least, ok .size .whole))
 
-  starts-are : (starts : List ℕ) → ((k : ℕ) → k < 12 → getD starts k 0 ≡ startOf counts k) → (k : ℕ) → k < 12 → getD starts k 0 ≡ packedHead c (room rs) k
+  starts-are :
+      (starts : List ℕ) → ((k : ℕ) → k < 12 → getD starts k 0 ≡ startOf counts k)
+      → (k : ℕ) → k < 12 → getD starts k 0 ≡ packedHead c (room rs) k
   starts-are starts e zero l = e 0 l ∙ ap₂ firstFor (ap suc (summed 11 (omega arith))) free ∙ first-is (suc (usedIn c)) (freeIn c (room rs))
     where
       free : getD counts 0 0 ≡ length (freeIn c (room rs))
@@ -153,14 +151,20 @@ module _
   counts-are (suc k) l = counted (suc k) l
 
   pub pack-whole :
-      (starts out ys : List ℕ) → length out ≡ length w → ((k : ℕ) → k < 12 → getD starts k 0 ≡ startOf counts k) → take 256 out ≡ table 256 (headerFrom h starts counts)
-      → ys ≡ packedRecords (chainsOf rest heads counts) (length (take (length out - 256) (drop 256 out)) / 4) → putMid 256 (length out - 256) out ys ≡ packedWords w
+      (starts out ys : List ℕ) → length out ≡ length w → ((k : ℕ) → k < 12 → getD starts k 0 ≡ startOf counts k)
+      → take 256 out ≡ table 256 (headerFrom h starts counts)
+      → ys ≡ packedRecords (chainsOf rest heads counts) (length (take (length out - 256) (drop 256 out)) / 4)
+      → putMid 256 (length out - 256) out ys ≡ packedWords w
   unfolding packedWords packedFrom
   pack-whole starts out ys e es et er =
       back-is out ys
       ∙ ap₂ (λ (x y : List ℕ). x ++ y)
-      (et ∙ table-same 256 (headerFrom h starts counts) (packedWord (λ (i : ℕ). getD w i 0) c (room rs)) (header-same w starts counts c (room rs) (starts-are starts es) counts-are))
-      (er ∙ records-same (chainsOf rest heads counts) c (length (take (length out - 256) (drop 256 out)) / 4) (λ k l. same (suc k) (omega arith)) ∙ ap (packedRecords c) long)
+      (et
+      ∙ table-same 256 (headerFrom h starts counts) (packedWord (λ (i : ℕ). getD w i 0) c (room rs))
+      (header-same w starts counts c (room rs) (starts-are starts es) counts-are))
+      (er
+      ∙ records-same (chainsOf rest heads counts) c (length (take (length out - 256) (drop 256 out)) / 4) (λ k l. same (suc k) (omega arith))
+      ∙ ap (packedRecords c) long)
     where
       long : length (take (length out - 256) (drop 256 out)) / 4 ≡ room rs
       long = rw (rest-part out, length-drop 256 out) (omega (arith, length-drop 256 w, e))

@@ -31,7 +31,9 @@ module _ (rest heads counts out₀ out : List ℕ) (d place : ℕ) (w : Writes (
   c = chainsOf rest heads counts
 
   count-is : usedTo c (suc d) ≡ usedTo c d + getD counts (suc d) 0
-  count-is = used-next c d ∙ ap (λ k. usedTo c d + k) (ap length (chain-is rest heads counts (suc d)) ∙ length-contents rest (getD counts (suc d) 0) (getD heads (suc d) 0))
+  count-is =
+      used-next c d
+      ∙ ap (λ k. usedTo c d + k) (ap length (chain-is rest heads counts (suc d)) ∙ length-contents rest (getD counts (suc d) 0) (getD heads (suc d) 0))
 
   pub chains-row : Rows rest heads counts → Row rest (getD counts (d + 1) 0) (getD heads (d + 1) 0)
   chains-row f = f (d + 1) (omega arith) (omega arith)
@@ -42,8 +44,10 @@ module _ (rest heads counts out₀ out : List ℕ) (d place : ℕ) (w : Writes (
   pub chains-fit : 4 * usedTo c 11 ≤ length out₀ → 4 * (place + getD counts (d + 1) 0) ≤ length out + 4
   chains-fit f = rw add-one (omega (arith, w .next, w .len, f, count-is, used-least c (suc d) 11 (omega arith)))
 
-  pub chains-turn : (out′ : List ℕ) → length out′ ≡ length out
-      → take (4 * (place + getD counts (d + 1) 0) - 4) out′ ≡ take (4 * place - 4) out ++ chainWords place (contents rest (getD counts (d + 1) 0) (getD heads (d + 1) 0))
+  pub chains-turn :
+      (out′ : List ℕ) → length out′ ≡ length out
+      → take (4 * (place + getD counts (d + 1) 0) - 4) out′
+      ≡ take (4 * place - 4) out ++ chainWords place (contents rest (getD counts (d + 1) 0) (getD heads (d + 1) 0))
       → Writes c out₀ out′ (d + 1) (place + getD counts (d + 1) 0)
   chains-turn out′ e t = rw add-one (turn e (rw add-one at t))
     where
@@ -53,14 +57,20 @@ module _ (rest heads counts out₀ out : List ℕ) (d place : ℕ) (w : Writes (
       before : 4 * place - 4 ≡ 4 * usedTo c d
       before = omega (arith, w .next)
 
-      turn : length out′ ≡ length out
-          → take (4 * (place + getD counts (suc d) 0) - 4) out′ ≡ take (4 * place - 4) out ++ chainWords place (contents rest (getD counts (suc d) 0) (getD heads (suc d) 0))
+      turn :
+          length out′ ≡ length out
+          → take (4 * (place + getD counts (suc d) 0) - 4) out′
+          ≡ take (4 * place - 4) out ++ chainWords place (contents rest (getD counts (suc d) 0) (getD heads (suc d) 0))
           → Writes c out₀ out′ (suc d) (place + getD counts (suc d) 0)
       turn e′ t′ = record {
         most = omega arith;
         next = omega (arith, w .next, count-is);
         len = e′ ∙ w .len;
-        words = ap (λ k. take k out′) same ∙ t′ ∙ ap₂ (λ (x y : List ℕ). x ++ y) (ap (λ k. take k out) before ∙ w .words) (ap (λ k. chainWords k (contents rest (getD counts (suc d) 0) (getD heads (suc d) 0))) (w .next)) ∙ sym (words-next c d _ shut);
+        words =
+            ap (λ k. take k out′) same ∙ t′
+            ∙ ap₂ (λ (x y : List ℕ). x ++ y) (ap (λ k. take k out) before ∙ w .words)
+            (ap (λ k. chainWords k (contents rest (getD counts (suc d) 0) (getD heads (suc d) 0))) (w .next))
+            ∙ sym (words-next c d _ shut);
       }
         where
           shut : c (suc d) ≡ contents rest (getD counts (suc d) 0) (getD heads (suc d) 0)
@@ -109,7 +119,9 @@ module _ (goal out₀ : List ℕ) (end : ℕ) (out : List ℕ) (n p : ℕ) where
       done : take (4 * p - 4) out ++ chainWords p (zeroRecs n) ≡ goal → take (4 * p - 4) out ≡ goal
       done w = sym (ap (λ k. take (4 * p - 4) out ++ chainWords p (zeroRecs k)) none ∙ no-free p (take (4 * p - 4) out)) ∙ w
 
-free-step : (goal out₀ : List ℕ) (end : ℕ) (out : List ℕ) (n p : ℕ) → Zeroes goal out₀ end out (suc n) p → Zeroes goal out₀ end (filled out p (linkOf (suc n) p) 0 0 0) n (suc p)
+free-step :
+    (goal out₀ : List ℕ) (end : ℕ) (out : List ℕ) (n p : ℕ) → Zeroes goal out₀ end out (suc n) p
+    → Zeroes goal out₀ end (filled out p (linkOf (suc n) p) 0 0 0) n (suc p)
 free-step goal out₀ end out n p c = record {
   one = omega arith;
   ends = omega (arith, c .ends);
@@ -124,15 +136,17 @@ free-step goal out₀ end out n p c = record {
     long : length (filled out p (linkOf (suc n) p) 0 0 0) ≡ length out
     long = length-filled out p (linkOf (suc n) p) 0 0 0
 
-pub free-turn : (goal out₀ : List ℕ) (end : ℕ) (out out′ : List ℕ) (n p next : ℕ) → 0 < n → next ≡ linkOf n p → out′ ≡ filled out p next 0 0 0 → Zeroes goal out₀ end out n p → Zeroes goal out₀ end out′ (n - 1) (p + 1)
+pub free-turn :
+    (goal out₀ : List ℕ) (end : ℕ) (out out′ : List ℕ) (n p next : ℕ) → 0 < n → next ≡ linkOf n p → out′ ≡ filled out p next 0 0 0
+    → Zeroes goal out₀ end out n p → Zeroes goal out₀ end out′ (n - 1) (p + 1)
 free-turn goal out₀ end out out′ zero p next l en eo c = absurd (not-suc-le-zero l)
 free-turn goal out₀ end out out′ (suc n) p next l en eo c = rw (eo, en, sub-one, add-one) (free-step goal out₀ end out n p c)
 
 -- ---- all
 
 pub all-records :
-    (c : ℕ → List Rec) (out out₁ out₂ : List ℕ) (place count : ℕ) → length out ≡ 4 * (usedTo c 11 + count) → length out₁ ≡ length out → length out₂ ≡ length out₁
-    → place ≡ suc (usedTo c 11) → take (4 * usedTo c 11) out₁ ≡ usedWords c 11
+    (c : ℕ → List Rec) (out out₁ out₂ : List ℕ) (place count : ℕ) → length out ≡ 4 * (usedTo c 11 + count) → length out₁ ≡ length out
+    → length out₂ ≡ length out₁ → place ≡ suc (usedTo c 11) → take (4 * usedTo c 11) out₁ ≡ usedWords c 11
     → take (4 * (place + count) - 4) out₂ ≡ take (4 * place - 4) out₁ ++ chainWords place (zeroRecs count) → out₂ ≡ packedRecords c (length out / 4)
 unfolding packedRecords
 all-records c out out₁ out₂ place count el e₁ e₂ ep ew et =

@@ -35,7 +35,8 @@ fn copy_record(rest: &[u64], at: u64, out: &mut [u64], place: u64, next: u64)
 pub fn copy_chain(rest: &[u64], head: u64, count: u64, out: &mut [u64], place: u64)
     requires { ⌜ Row (now rest) count head ⌝ }
     requires { ⌜ 1 ≤ place ⌝ ∗ ⌜ 4 * (place + count) ≤ length (now out) + 4 ⌝ }
-    ensures { λ _. ⌜ take (4 * (place + count) - 4) (now (out .exit)) ≡ take (4 * place - 4) (now (out .entry)) ++ chainWords place (contents (now (rest .entry)) count head) ⌝ }
+    ensures { λ _. ⌜ take (4 * (place + count) - 4) (now (out .exit))
+        ≡ take (4 * place - 4) (now (out .entry)) ++ chainWords place (contents (now (rest .entry)) count head) ⌝ }
 {
     let mut at = head;
     let mut to = place;

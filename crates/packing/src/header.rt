@@ -11,22 +11,19 @@ ghost use Rattle.packing.specs.Heads.{sumTo, firstFor, startOf, headerFr
 fn spare(i: usize) -> bool
     ensures { λ r. ⌜ r ≡ spareAt i ⌝ }
 {
-    if i < 18 {
+    if i >= 192 {
+        return i < 256;
+    }
+    if i >= 64 {
         return false;
     }
-    if i < 24 {
+    if i >= 48 {
         return true;
     }
-    if i < 48 {
+    if i >= 24 {
         return false;
     }
-    if i < 64 {
-        return true;
-    }
-    if i < 192 {
-        return false;
-    }
-    i < 256
+    i >= 18
 }
 
 // The heads and counts of the twelve chains.
@@ -80,10 +77,10 @@ fn header_word(head: &[u64], starts: &[u64; 12], counts: &[u64; 12], i: usize) -
     if i < 24 {
         return head[i];
     }
-    if i >= 48 {
+    let k = (i - 24) / 2;
+    if k >= 12 {
         return head[i];
     }
-    let k = (i - 24) / 2;
     if i % 2 == 0 {
         return starts[k];
     }

@@ -47,7 +47,8 @@ fn write_free(out: &mut [u64], place: u64, count: u64)
 pub fn write_records(rest: &[u64], heads: &[u64; 12], counts: &[u64; 12], out: &mut [u64])
     requires { ⌜ Rows (now rest) (now heads) (now counts) ⌝ }
     requires { ⌜ length (now out) ≡ 4 * (usedTo (chainsOf (now rest) (now heads) (now counts)) 11 + getD (now counts) 0 0) ⌝ }
-    ensures { λ _. ⌜ now (out .exit) ≡ packedRecords (chainsOf (now (rest .entry)) (now (heads .entry)) (now (counts .entry))) (length (now (out .entry)) / 4) ⌝ }
+    ensures { λ _. ⌜ now (out .exit)
+        ≡ packedRecords (chainsOf (now (rest .entry)) (now (heads .entry)) (now (counts .entry))) (length (now (out .entry)) / 4) ⌝ }
 {
     let place = write_chains(rest, heads, counts, out);
     write_free(out, place, counts[0]);

@@ -2,9 +2,10 @@
 use Prim.Native.Nat.{ℕ}
 use mathlib.Core.Bool.{Bool, false, true}
 use mathlib.Core.Option.{Option, none, some}
-use mathlib.Core.List.{List, map}
+use mathlib.Core.List.{List}
 use lib.ListN.{set}
-use Rattle.rules.specs.State.{Action, Aggregate, Event, Fixed, State, reserved, roundsLeft, side, used, withActions, withBlock, withRounds, withSide, withSum, withTimers, Held}
+use Rattle.rules.specs.Contents.{values}
+use Rattle.rules.specs.State.{Action, Aggregate, Event, Fixed, State, reserved, roundsLeft, side, used, withActions, withBlock, withRounds, withSide, withSum, withTimers}
 use Rattle.rules.specs.Choice.{Called, choose, event, nothing-left, refused, rounds, Answer}
 use Rattle.rules.specs.Arguments.{Call, EventIn, sim-network-stack, set-action}
 use Rattle.rules.specs.Basics.{Kind, Side, client, server, hasMachineNo}
@@ -116,9 +117,6 @@ pub record Ran : Type 0 where
   pub pending : List Aggregate
   pub stamps : List ℕ
   pub flag : Bool
-
-abbrev pub values : {A : Type 0} → List (Held A) → List A
-values {A} l = map (λ (h : Held A). h .value) l
 
 abbrev pub ran : State → List Call → Ran
 ran s l =

@@ -8,7 +8,8 @@ use Rattle.rules.specs.State.{BlockOutgoing, withFree, Event}
 use Rattle.rules.specs.Basics.{BlockingBegin, BlockingEnd, NormalSent, PaddingRecv, TimerEnd, TunnelSent, client, server}
 use Rattle.rules.specs.Arguments.{Call, pick-next}
 use Rattle.rules.specs.CallLists.{afterAll}
-use Rattle.rules.specs.CaseStates.{aggregate, anEventIn, blocked, fresh, nothingIn, openDelay, openWith, pendingIn, plain, queuedIn, rules, stampAt, withAction, withSums, withTimer, values}
+use Rattle.rules.specs.CaseStates.{aggregate, anEventIn, blocked, fresh, nothingIn, openDelay, openWith, pendingIn, plain, queuedIn, rules, stampAt, withAction, withSums, withTimer}
+use Rattle.rules.specs.Contents.{values}
 use Rattle.rules.specs.Calls.{call}
 use Rattle.rules.specs.NetworkStep.{packet}
 use Rattle.rules.specs.Opening.{upFrom}

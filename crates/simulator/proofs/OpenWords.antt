@@ -2,11 +2,11 @@
 use Prim.Native.Nat.{ℕ, zero, suc, _+_, _-_, _*_, _/_, _%_, _≤_, _<_}
 use mathlib.Core.Path.{_≡_, refl, sym, ap, ap₂, _∙_}
 use mathlib.Core.Bool.{Bool, true, false}
-use mathlib.Core.List.{List, [], _∷_, _++_, append-nil}
+use mathlib.Core.List.{List, [], _∷_, _++_}
 use native.Mathlib.Omega.{arith}
 use native.Mathlib.Decide.{ℕ-discrete}
 use lib.Dec.{eqb, ltb}
-use lib.ListN.{length, getD, set, take, drop, replicate, length-set, length-drop, drop-of-length-le, List·getD-append}
+use lib.ListN.{length, getD, set, take, drop, replicate, length-set, length-drop, List·getD-append}
 use lib.Seq.{getD-set-same, getD-set-other, getD-drop, getD-take, getD-append-add, length-take-le}
 use borrow.Author.Tests.{ltb-true, ltb-false, lt-ltb, eq-eqb, ne-eqb}
 use borrow.Rule.Slice.PartMut.{putMid, same-len-mid}
@@ -15,7 +15,7 @@ use Rattle.rules.specs.Opening.{Opening, recordsIn}
 use Rattle.queue_event.specs.Words.{In, put}
 use Rattle.layout.specs.Accepted.{SizeOk}
 use Rattle.layout.specs.Opened.{firstWords, headWord, openedWords, recordWord}
-use Rattle.layout.proofs.Parts.{rest-part}
+use Rattle.layout.proofs.Parts.{back-is, rest-part}
 use Rattle.layout.proofs.Tables.{list-past, opened-is}
 use Rattle.simulator.specs.OpeningParts.{AllZero, Chained, Cleared, putHead, putSettings}
 use Rattle.simulator.proofs.Reading.{same-ltb}
@@ -122,11 +122,6 @@ length-head : (o : Opening) (r : ℕ) (w : List ℕ) → length (putHead o r w) 
 length-head o r w = simp length-set
 
 -- ---- the whole block
-
-back-is : (xs ys : List ℕ) → putMid 256 (length xs - 256) xs ys ≡ take 256 xs ++ ys
-back-is xs ys =
-    ap (λ (r : List ℕ). take 256 xs ++ (ys ++ r)) (drop-of-length-le (drop 256 xs) {i = length xs - 256} (omega (arith, length-drop 256 xs)))
-    ∙ ap (λ (r : List ℕ). take 256 xs ++ r) (append-nil ys)
 
 module _
     (w₀ w w₂ : List ℕ) (o : Opening) (size : SizeOk (length w₀)) (cleared : (length w ≡ length w₀) × AllZero w) (settings : w₂ ≡ putSettings o w)
