@@ -625,11 +625,5 @@ pub(crate) fn line_answered(
     let call = words::understood(name, s.letters, forms, s.arguments, values);
     let lent_second = words::lent_second_after(call, values, s.lent_second);
     let r = line_called(call, s, forms, values, hints, state, second, out);
-    Scan::at_line(
-        reading::next_line(s.line),
-        r.lent,
-        lent_second,
-        r.known,
-        r.used,
-    )
+    s.line_after(r.lent, lent_second, r.known, r.used)
 }

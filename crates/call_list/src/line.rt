@@ -130,13 +130,7 @@ fn done(
     ensures { λ r. ⌜ Known (r .known) (r .lent) (now (state .exit)) ⌝ }
 {
     if passed_over(s) {
-        return Scan::at_line(
-            reading::next_line(s.line),
-            s.lent,
-            s.lent_second,
-            s.known,
-            s.used,
-        );
+        return s.line_after(s.lent, s.lent_second, s.known, s.used);
     }
     let t = parted(s.without_cr(), forms, values);
     calls::line_answered(t, name, forms, values, hints, state, second, out)

@@ -147,7 +147,7 @@ pub(crate) fn numeric(form: u64) -> bool
 }
 
 // The number of the next line.
-pub(crate) fn next_line(line: u64) -> u64 {
+fn next_line(line: u64) -> u64 {
     if line < 0xffff_ffff_ffff_ffff {
         return line + 1;
     }
@@ -163,13 +163,7 @@ impl Scan {
     }
 
     // At the start of a line.
-    pub(crate) fn at_line(
-        line: u64,
-        lent: usize,
-        lent_second: usize,
-        known: u64,
-        used: usize,
-    ) -> Self
+    fn at_line(line: u64, lent: usize, lent_second: usize, known: u64, used: usize) -> Self
         ensures { λ r. ⌜ (r .lent ≡ lent) × ((r .known ≡ known) × (r .used ≡ used)) ⌝ }
     {
         Self {
@@ -184,6 +178,13 @@ impl Scan {
             form: NO_WORD,
             number: 0,
         }
+    }
+
+    // At the start of the line after this one.
+    pub(crate) fn line_after(self, lent: usize, lent_second: usize, known: u64, used: usize) -> Self
+        ensures { λ r. ⌜ (r .lent ≡ lent) × ((r .known ≡ known) × (r .used ≡ used)) ⌝ }
+    {
+        Scan::at_line(next_line(self.line), lent, lent_second, known, used)
     }
 
     // A word that can be no argument.

@@ -2,7 +2,8 @@
 ghost use mathlib.Core.Path.{_≡_};
 ghost use Prim.Native.Nat.{_≤_};
 ghost use mathlib.Core.Bool.{true};
-ghost use lib.ListN.{length};
+ghost use mathlib.Core.Logic.{_⊎_};
+ghost use lib.ListN.{length, getD};
 ghost use Rattle.call_list.specs.Reading.{staysWithin};
 use crate::reading;
 
@@ -231,14 +232,16 @@ pub(crate) fn lent_after(call: Call, values: &[u64; 12], state: &[u64], lent: us
     at_most(n as usize, state)
 }
 
-// How many words of the second block the calls are lent after the line: at most so many, where the block has fewer.
-pub(crate) fn lent_second_after(call: Call, values: &[u64; 12], lent_second: usize) -> usize {
+// How many words of the second block the calls are lent after the line: as many as it names, or as before. Where the block has fewer, all.
+pub(crate) fn lent_second_after(call: Call, values: &[u64; 12], lent: usize) -> usize
+    ensures { λ r. ⌜ (r ≡ lent) ⊎ (r ≡ getD (now (values .entry)) 0 0) ⌝ }
+{
     let Call::LendSecond = call else {
-        return lent_second;
+        return lent;
     };
     let n = values[0];
     if n > WORDS {
-        return lent_second;
+        return lent;
     }
     n as usize
 }

@@ -1,6 +1,6 @@
 -- `call_list::calls::line_answered` meets its contract. Assumes nothing.
-use Rattle.call_list.proofs.KnownLaws.{same-known}
 use borrow.Author.Needs.{needs}
+use Rattle.call_list.proofs.KnownLaws.{same-known}
 use Rattle.call_list.proofs.calls.line_answered.Statement.{statement}
 use Rattle.call_list.proofs.calls.line_answered.Tie as tie
 
@@ -13,11 +13,8 @@ lent-second-after-requires c κs = search needs
 line-called-requires : tie.Need-line-called-requires
 line-called-requires c κs = search needs
 
-next-line-requires : tie.Need-next-line-requires
-next-line-requires c κs = search needs
-
-at-line-requires : tie.Need-at-line-requires
-at-line-requires c κs = search needs
+line-after-requires : tie.Need-line-after-requires
+line-after-requires c κs = search needs
 
 same-length : tie.Need-same-length
 same-length c = search needs
@@ -29,7 +26,7 @@ same-length-3 : tie.Need-same-length-3
 same-length-3 c = search needs
 
 returns : tie.Need-returns
-returns c = (search needs, same-known _ _ _ _ _ (c .before .before .before .before .before .before .before .before .line-called .ensures .1) (c .at-line .ensures .1 .0) (c .at-line .ensures .0))
+returns c = (search needs, same-known _ _ _ _ _ (c .before .before .before .before .before .before .before .line-called .ensures .1) (c .line-after .ensures .1 .0) (c .line-after .ensures .0))
 
 pub line-answered-spec : {M : Type 1} → statement M
 line-answered-spec =
@@ -38,8 +35,7 @@ line-answered-spec =
     understood-requires
     lent-second-after-requires
     line-called-requires
-    next-line-requires
-    at-line-requires
+    line-after-requires
     same-length
     same-length-2
     same-length-3

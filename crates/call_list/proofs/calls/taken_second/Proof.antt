@@ -1,6 +1,6 @@
 -- `call_list::calls::taken_second` meets its contract. Assumes nothing.
-use Rattle.call_list.proofs.KnownLaws.{none-known}
 use borrow.Author.Needs.{needs}
+use Rattle.call_list.proofs.KnownLaws.{none-known}
 use Rattle.call_list.proofs.calls.taken_second.Statement.{statement}
 use Rattle.call_list.proofs.calls.taken_second.Tie as tie
 

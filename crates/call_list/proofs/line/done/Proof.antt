@@ -1,21 +1,18 @@
 -- `call_list::line::done` meets its contract. Assumes nothing.
 use mathlib.Core.Path.{_∙_}
-use Rattle.call_list.proofs.KnownLaws.{same-known}
 use borrow.Author.Needs.{needs}
+use Rattle.call_list.proofs.KnownLaws.{same-known}
 use Rattle.call_list.proofs.line.done.Statement.{statement}
 use Rattle.call_list.proofs.line.done.Tie as tie
 
 passed-over-requires : tie.Need-passed-over-requires
 passed-over-requires c κs = search needs
 
-next-line-requires : tie.Need-next-line-requires
-next-line-requires c κs = search needs
-
-at-line-requires : tie.Need-at-line-requires
-at-line-requires c κs = search needs
+line-after-requires : tie.Need-line-after-requires
+line-after-requires c κs = search needs
 
 returns : tie.Need-returns
-returns c = (search needs, same-known _ _ _ _ _ (c .before .before .before .before .before .before .before .pre .1) (c .at-line .ensures .1 .0) (c .at-line .ensures .0))
+returns c = (search needs, same-known _ _ _ _ _ (c .before .before .before .before .before .before .pre .1) (c .line-after .ensures .1 .0) (c .line-after .ensures .0))
 
 without-cr-requires : tie.Need-without-cr-requires
 without-cr-requires c κs = search needs
@@ -43,8 +40,7 @@ done-spec =
     tie.close
     (tie.spec
     passed-over-requires
-    next-line-requires
-    at-line-requires
+    line-after-requires
     returns
     without-cr-requires
     parted-requires
