@@ -1,6 +1,6 @@
 -- The words of the second block, copied over those of the first: what a turn of the loop and its end leave. Assumes nothing.
 use Prim.Native.Nat.{ℕ, suc, _+_, _≤_, _<_}
-use mathlib.Core.Path.{_≡_, sym, ap, _∙_}
+use mathlib.Core.Path.{_≡_, refl, sym, ap, _∙_}
 use mathlib.Core.List.{List, [], _∷_, _++_}
 use native.Mathlib.Omega.{arith}
 use lib.ListN.{length, getD, set, take, length-set}
@@ -29,11 +29,12 @@ copied-turn v left i n inside start len c =
     (omega (arith, inside, same), (same ∙ start, (same ∙ len, copied-word v left i inside len c)))
 
 -- the end: all are copied
-pub copied-all : (w v left : List ℕ) (i : ℕ) → length left ≤ i → length left ≡ length v → take i left ≡ take i v → Takes w v left
-copied-all w v left i end len c =
+pub copied-all :
+    (w v left : List ℕ) (i : ℕ) → length left ≤ i → length left ≡ length w → length left ≡ length v → take i left ≡ take i v → Takes w v left
+copied-all w v left i end start len c =
     let short : length v ≤ i = omega (arith, end, len) in
-    record { words = λ e. sym (take-all i left end) ∙ c ∙ take-all i v short }
+    record { words = λ e. sym (take-all i left end) ∙ c ∙ take-all i v short; other = λ d. absurd (d (sym len ∙ start)) }
 
--- where there are not as many, nothing is said
-pub takes-none : (w v left : List ℕ) → (length v ≡ length w → ⊥) → Takes w v left
-takes-none w v left d = record { words = λ e. absurd (d e) }
+-- where there are not as many, the words stay
+pub takes-none : (w v : List ℕ) → (length v ≡ length w → ⊥) → Takes w v w
+takes-none w v d = record { words = λ e. absurd (d e); other = λ _. refl }

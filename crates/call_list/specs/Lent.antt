@@ -26,9 +26,10 @@ pub record PacksLent (n : ℕ) (w : List ℕ) (m : ℕ) (v : List ℕ) (a : Answ
   pub packing : Packs (take n w) (take m v) a (take m left)
   pub rest : drop m left ≡ drop m v
 
--- "copies all 8,192 words of the second block over the first": the words left of w are those of v, where both are as many
+-- "copies all 8,192 words of the second block over the first": the words left of w are those of v, where both are as many, and else those of w
 pub record Takes (w v left : List ℕ) : Type 0 where
   pub words : length v ≡ length w → left ≡ v
+  pub other : (length v ≡ length w → ⊥) → left ≡ w
 
 -- what the program keeps of the first n of the words w: where the flag is 1, they are an accepted state
 pub record Known (flag n : ℕ) (w : List ℕ) : Type 0 where
