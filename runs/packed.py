@@ -353,75 +353,58 @@ def held_states(program, rnd, states):
 
 # ---- answers after packing
 
+def answered(program, lines):
+    """Each line with its answer, a list of lines; comments and empty lines have none."""
+    out = iter(run(program, lines))
+    for line in lines:
+        answer = []
+        if line.split() and not line.startswith("#"):
+            answer.append(next(out))
+            while line == "show" and answer[-1] != "end":
+                answer.append(next(out))
+        yield line, answer
+
+
 def on_both(program, rnd, states):
     """Calls on a state, `show` after each, then the same on its packed words."""
-    made = 0
     lines, halves = [], []
     for _ in range(states):
-        s = drawn(rnd)
-        w = s.scattered(rnd)
+        w = drawn(rnd).scattered(rnd)
         calls = [line for _ in range(12) for line in (some_call(rnd, w), "show")]
-        lines += [f"lend {len(w)}", *(f"word {i} {v}" for i, v in enumerate(w)), f"lend_second {len(w)}", "pack", "# original", *calls, "take_second", "# packed", *calls, "# end"]
-        made += 12
-    out = iter(run(program, lines))
-    into = []
-    for line in lines:
+        lines += [f"lend {len(w)}", *(f"word {i} {v}" for i, v in enumerate(w)), f"lend_second {len(w)}", "pack", "# original", *calls, "# taken over", "take_second",
+                  "# packed", *calls, "# next"]
+    for line, answer in answered(program, lines):
         if line.startswith("#"):
-            halves.append(into := [])
-        elif line == "show":
-            while (text := next(out)) != "end":
-                into.append(text)
-        else:
-            into.append(next(out))
-    for i in range(0, len(halves), 3):
-        if halves[i][:-1] != halves[i + 1]:
-            wrong(f"answers after packing: {halves[i]} {halves[i + 1]}", lines)
-    return made
+            halves.append([])
+        elif halves:
+            halves[-1].append(answer)
+    for i in range(0, len(halves), 4):
+        if halves[i] != halves[i + 2]:
+            wrong(f"answers after packing: {halves[i]} {halves[i + 2]}", lines)
+    return 12 * states
 
 
 def taken_over(program, rnd, lists):
     """Random lists as they are, and with the state packed and taken over at random places: the same answers."""
-    made = 0
+    packings = 0
     for _ in range(lists):
         kind = rnd.choice(list(generate.KINDS))
-        lines = ["lend 8192", *(line for line in generate.generate(kind, rnd.randrange(10**9), 300) if not line.startswith("word")), "show"]
-        plain = run(program, [text for line in lines for text in (line, "show")])
-        ours, lent, packs_at = [], 8192, 0
-        out = iter(plain)
-        for line in lines:
+        lines = [line for line in generate.generate(kind, rnd.randrange(10**9), 300) if not line.startswith("word")]
+        plain = list(answered(program, [text for line in lines for text in (line, "show")]))
+        ours, lent = [], 8192
+        for line, answer in plain:
+            ours.append(line)
             if line.startswith("lend"):
                 lent = int(line.split()[1])
-            if line == "show":
-                while next(out) != "end":
-                    pass
-            elif line.split() and not line.startswith("#"):
-                next(out)
-            ours += [line, "show"]
-            first = next(out)
-            while first != "end" and next(out) != "end":
-                pass
-            if first != "not accepted" and rnd.random() < 0.2:
+            if line == "show" and answer != ["not accepted", "end"] and rnd.random() < 0.2:
                 ours += [f"lend_second {lent}", "pack", "take_second"]
-                packs_at += 1
-        answers = run(program, ours)
-        at = 0
-        kept = []
-        for line in ours:
-            n = 1
-            if line == "show":
-                n = answers.index("end", at) + 1 - at
-            elif not line.split() or line.startswith("#"):
-                n = 0
-            if line.startswith(("lend_second", "pack", "take_second")):
-                if answers[at] != "ok":
-                    wrong(f"{line}: {answers[at]}", ours)
-            else:
-                kept += answers[at:at + n]
-            at += n
-        if kept != plain:
-            wrong(f"kind {kind}: other answers where the state was packed", ours)
-        made += packs_at
-    return made
+                packings += 1
+        both = list(answered(program, ours))
+        added_lines = ("lend_second", "pack", "take_second")
+        refused = [pair for pair in both if pair[0].startswith(added_lines) and pair[1] != ["ok"]]
+        if refused or [pair for pair in both if not pair[0].startswith(added_lines)] != plain:
+            wrong(f"kind {kind}: other answers where the state was packed {refused}", ours)
+    return packings
 
 
 def main():
