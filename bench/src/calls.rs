@@ -112,8 +112,7 @@ impl Call {
         let large = records >= 1984;
         match self {
             Call::Accepted => 1.5,
-            Call::Pack if large => 2.5,
-            Call::Pack => 2.7,
+            Call::Pack => 2.5,
             Call::PickThree | Call::PickEnd if large => 1.7,
             Call::PickThree | Call::PickEnd => 2.0,
             _ if large => 1.3,
