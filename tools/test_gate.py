@@ -101,6 +101,7 @@ def prepared(work):
     (t / "target/staticlib/libmaybenot_core.a").touch()
     t.edit(".ci/run", "--seconds 60", "--seconds 2")
     t.edit(".ci/run", "--seconds 20", "--seconds 2")
+    t.edit(".ci/run", "forecast 1 1500", "forecast 1 100")
     count = len(re.findall(r"^\w+:", (t / "crates.txt").read_text(), re.M)) + len(list(t.repo.glob("crates/*/must-fail/*.edit")))
     (work / "bin").mkdir()
     (work / "bin/rt").write_text(STAND_IN.replace("COUNT", str(count)).replace("exec RT", f"exec {RT}"))
@@ -124,12 +125,14 @@ TRIALS = [
     ("a harmless edit in a group", RED, "NOT REFUSED: harmless", lambda t: (t / GROUP).open("a").write(HARMLESS)),
     ("an edit that rt did not refuse", RED, "rt did not refuse it", lambda t: (t / "target/must-fail/rules/own-sum.res").write_text("survived\n")),
     ("a refused.py that lets all pass", RED, "trials of refused.py: failed", lambda t: t.edit("tools/refused.py", "not needs", "False")),
+    ("a packed word that is another", RED, "later answers: failed", lambda t: t.edit("runs/packed.py", "lambda: 0)", "lambda: 1)")),
     ("a source of another commit", RED, "the source is not", lambda t: t.other_source()),
     ("a definition that is not the original's", RED, "as equations: failed", lambda t: t.edit("crates/rules/specs/NetworkStep.antt", "onDelayed x (s .client .sum)", "onDelayed x (x .sum)")),
     ("a wrong answer to a stored list", RED, "the stored lists: failed", lambda t: t.losing("--lists")),
     ("a wrong answer to a random list", RED, "of every kind: failed", lambda t: t.losing("--seconds")),
     ("a wrong answer in C", RED, "line.answers differs", lambda t: t.edit("examples/c/line.answers", "1", "2")),
     ("a wrong answer of a list of calls in C", RED, "turns.answers differs", lambda t: t.edit("examples/c/turns.answers", "1", "2")),
+    ("a wrong answer of packing in C", RED, "packed.answers differs", lambda t: t.edit("examples/c/packed.answers", "equal", "other")),
     ("a wrong answer through the list call", RED, "list call: the stored lists: failed", lambda t: t.edit("runs/listed/src/main.rs", "lines.join", "lines[1..].join")),
     ("a wrong answer on hostile blocks", RED, "hostile blocks: failed", lambda t: t.edit("runs/hostile/reading.h", "((1ull << 62) - 1)", "((1ull << 62) - 2)")),
     ("no cargo", GREEN, "not compared with the Rust: runs/build: no cargo", lambda t: t.without("cargo")),

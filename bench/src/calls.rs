@@ -107,12 +107,13 @@ impl Call {
         }
     }
 
-    /// How many walks it may take on so many records, R from 256 on.
+    /// How many walks it may take on so many records, R from 256 on. None is asked of packing below 1,984.
     pub fn goal(self, records: usize) -> f64 {
         let large = records >= 1984;
         match self {
             Call::Accepted => 1.5,
-            Call::Pack => 2.5,
+            Call::Pack if large => 2.5,
+            Call::Pack => f64::INFINITY,
             Call::PickThree | Call::PickEnd if large => 1.7,
             Call::PickThree | Call::PickEnd => 2.0,
             _ if large => 1.3,

@@ -253,7 +253,7 @@ fn main() {
     one_chain(rounds);
     let said = if within { "within" } else { "not within" };
     println!(
-        "spread blocks, R >= 256: {said} the goals (accepted 1.5; push, step and choices of one round 1.7, from R = 1,984 on 1.3; choices of more rounds 2.0, from R = 1,984 on 1.7; packing 2.5)"
+        "spread blocks, R >= 256: {said} the goals (accepted 1.5; push, step and choices of one round 1.7, from R = 1,984 on 1.3; choices of more rounds 2.0, from R = 1,984 on 1.7; packing 2.5 from R = 1,984 on)"
     );
     std::process::exit(!within as i32);
 }
