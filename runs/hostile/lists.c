@@ -6,7 +6,7 @@
  * should be, else 1. */
 #include "../../include/maybenot_core.h"
 #include "../listed/one_by_one.h"
-#include "blocks.h"
+#include "lots.h"
 #include "places.h"
 #include <stdio.h>
 #include <stdlib.h>
@@ -26,7 +26,6 @@ struct lot {
   unsigned long lists, sound, asked, made, turns, answers[11];
 };
 
-#define R(r) (256 + 4 * (r))
 static struct lot lots[] = {
     {.length = R(1), .weight = 900},    {.length = R(2), .weight = 600},    {.length = R(4), .weight = 800},    {.length = R(8), .weight = 1500},
     {.length = R(13), .weight = 1800},  {.length = R(21), .weight = 1900},  {.length = R(60), .weight = 1500},  {.length = R(300), .weight = 400},
@@ -46,14 +45,7 @@ static void prepare(struct lot *l) {
   l->place = place_for(l->length);
 }
 
-static struct lot *choose_lot(void) {
-  unsigned x = below(10000);
-  for (size_t i = 0; i < LOTS; i++) {
-    if (x < lots[i].weight) return &lots[i];
-    x -= lots[i].weight;
-  }
-  return &lots[0];
-}
+static unsigned weight_of(size_t i) { return lots[i].weight; }
 
 /* ---- rows */
 
@@ -190,7 +182,7 @@ int main(int count, char **words) {
   rows = place_for(MOST_WORDS);
   answers = place_for(MOST_WORDS);
   for (unsigned long i = 0; i < lists; i++) {
-    struct lot *l = choose_lot();
+    struct lot *l = &lots[drawn(LOTS, weight_of)];
     const char *fault = once(l);
     if (fault && bad++ < 3) tell(i, l, fault);
   }

@@ -6,13 +6,12 @@
  * it should be, else 1. Compiled with -DEXACT it lends exact pieces of the heap instead,
  * for valgrind. */
 #include "../../include/maybenot_core.h"
-#include "blocks.h"
+#include "lots.h"
 #include "places.h"
 #include <stdio.h>
 #include <stdlib.h>
 #include <string.h>
 
-#define R(r) (256 + 4 * (r))
 #define MOST (R(65536) + 8)
 #define SMALL 1024
 
@@ -23,25 +22,12 @@ struct lot {
   unsigned long calls, sound, answers[3];
 };
 
-static struct lot lots[] = {
-    {.length = R(1), .weight = 1500},  {.length = R(2), .weight = 700},   {.length = R(3), .weight = 700},   {.length = R(4), .weight = 800},
-    {.length = R(6), .weight = 1000},  {.length = R(8), .weight = 1300},  {.length = R(13), .weight = 1300}, {.length = R(21), .weight = 1200},
-    {.length = R(60), .weight = 796},  {.length = R(1984), .weight = 50}, {.length = R(1985), .weight = 50}, {.length = R(65535), .weight = 2},
-    {.length = 0, .weight = 150},      {.length = 256, .weight = 150},    {.length = 259, .weight = 150},    {.length = 261, .weight = 150},
-    {.length = R(65536), .weight = 2},
-};
+static struct lot lots[] = {LENGTHS(LOT)};
 #define LOTS (sizeof lots / sizeof *lots)
 
 static word before[MOST], due[MOST], second_before[MOST];
 
-static struct lot *choose_lot(void) {
-  unsigned x = below(10000);
-  for (size_t i = 0; i < LOTS; i++) {
-    if (x < lots[i].weight) return &lots[i];
-    x -= lots[i].weight;
-  }
-  return &lots[0];
-}
+static unsigned weight_of(size_t i) { return lots[i].weight; }
 
 /* ---- a second reading: the packed form of accepted words */
 
@@ -142,7 +128,7 @@ int main(int count, char **words) {
   for (unsigned long i = 0; i < calls; i++) {
     word number;
     size_t length;
-    struct lot *l = choose_lot();
+    struct lot *l = &lots[drawn(LOTS, weight_of)];
     const char *fault = once(l, &number, &length);
     if (fault && bad++ < 3) printf("call %lu: %s (%zu words into %zu, number %llu)\n", i, fault, l->length, length, (unsigned long long)number);
   }
