@@ -7,9 +7,10 @@ ghost use Rattle.event.specs.HandedIn.{eventIn, actionIn};
 ghost use Rattle.event.specs.Answers.{answerOf, choiceOf, stepOf};
 ghost use Rattle.simulator.specs.Numbers.{slotIn, Lent};
 ghost use Rattle.simulator.specs.Openings.{openingOf};
-ghost use Rattle.call_list.specs.Lent.{OnLent, OpensLent, PacksLent, Takes, Known};
+ghost use Rattle.call_list.specs.Lent.{OnLent, OpensLent, Known};
 use crate::reading;
 use crate::reading::Scan;
+use crate::second;
 use crate::words;
 use crate::words::Call;
 use answer_text::answers;
@@ -247,28 +248,6 @@ fn set_word(block: &mut [u64], i: u64, v: u64) -> Answer {
 
 // ---- the second block, of which the first `reach` words are lent
 
-fn pack(state: &[u64], lent: usize, second: &mut [u64], reach: usize) -> Answer
-    requires { ⌜ (lent ≤ length (now state)) × (reach ≤ length (now second)) ⌝ }
-    ensures { λ a. ⌜ PacksLent lent (now (state .entry)) reach (now (second .entry)) (answerOf a) (now (second .exit)) ⌝ }
-{
-    simulator::pack::pack(&state[0..lent], &mut second[0..reach])
-}
-
-// The words of the second block over those of the first, where there are as many.
-fn take_second(state: &mut [u64], second: &[u64]) -> Answer
-    ensures { λ _. ⌜ Takes (now (state .entry)) (now (second .entry)) (now (state .exit)) ⌝ }
-{
-    if second.len() != state.len() {
-        return Answer::Done;
-    }
-    let mut i = 0;
-    while i < state.len() {
-        state[i] = second[i];
-        i += 1;
-    }
-    Answer::Done
-}
-
 // `word_second` and packing; the work of `lend_second` is done elsewhere.
 fn second_written(
     call: Call,
@@ -282,7 +261,7 @@ fn second_written(
 {
     match call {
         Call::WordSecond => set_word(second, values[0], values[1]),
-        Call::Pack => pack(state, lent, second, reach),
+        Call::Pack => second::pack(state, lent, second, reach),
         _ => Answer::Done,
     }
 }
@@ -486,30 +465,6 @@ fn changed(
     Left { lent, known, used }
 }
 
-// `take_second`: the words of the first block are those of the second, and not known to be accepted.
-fn taken_second(
-    state: &mut [u64],
-    second: &[u64],
-    reach: usize,
-    out: &mut [u8],
-    used: usize,
-) -> Left
-    requires { ⌜ used ≤ length (now out) ⌝ }
-    ensures { λ r. ⌜ (r .lent ≤ length (now (state .exit))) × (r .used ≤ length (now (out .exit))) ⌝ }
-    ensures { λ r. ⌜ Known (r .known) (r .lent) (now (state .exit)) ⌝ }
-    ensures { λ _. ⌜ Takes (now (state .entry)) (now (second .entry)) (now (state .exit)) ⌝ }
-{
-    let lent = words::at_most(reach, state);
-    let a = take_second(state, second);
-    let used = answers::told(out, used, a);
-    let after = reading::UNKNOWN;
-    Left {
-        lent,
-        known: after,
-        used,
-    }
-}
-
 // `show`, `words`, `words_second` and a line that is no call, which leave every word.
 fn listed(
     call: Call,
@@ -599,7 +554,7 @@ fn line_called(
         return Left { lent, known, used };
     }
     if takes_second(call) {
-        return taken_second(state, second, reach, out, s.used);
+        return second::taken_second(state, second, reach, out, s.used);
     }
     if changes_words(call) {
         return changed(call, values, forms, lent, state, out, s.used);

@@ -2,4 +2,5 @@
 mod calls;
 pub mod line;
 pub mod reading;
+mod second;
 mod words;

@@ -1,11 +1,11 @@
--- `call_list::calls::take_second` meets its contract. Assumes nothing.
+-- `call_list::second::take_second` meets its contract. Assumes nothing.
 use Prim.Native.Nat.{_≤_, _-_}
 use mathlib.Core.Path.{_≡_, refl}
 use lib.ListN.{length, take}
 use borrow.Author.Needs.{needs}
 use Rattle.call_list.proofs.TakeLaws.{copied-turn, copied-all, takes-none}
-use Rattle.call_list.proofs.calls.take_second.Statement.{statement}
-use Rattle.call_list.proofs.calls.take_second.Tie as tie
+use Rattle.call_list.proofs.second.take_second.Statement.{statement}
+use Rattle.call_list.proofs.second.take_second.Tie as tie
 
 abbrev Inv-loop : tie.InvT-loop
 Inv-loop state₀ second i₀ state i =

@@ -1,8 +1,8 @@
--- `call_list::calls::pack` meets its contract. Assumes nothing.
+-- `call_list::second::pack` meets its contract. Assumes nothing.
 use borrow.Author.Needs.{needs}
 use Rattle.call_list.proofs.LentLaws.{packs-lent}
-use Rattle.call_list.proofs.calls.pack.Statement.{statement}
-use Rattle.call_list.proofs.calls.pack.Tie as tie
+use Rattle.call_list.proofs.second.pack.Statement.{statement}
+use Rattle.call_list.proofs.second.pack.Tie as tie
 
 sub-pack : tie.Need-sub-pack
 sub-pack c = search needs

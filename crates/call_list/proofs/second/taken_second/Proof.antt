@@ -1,8 +1,8 @@
--- `call_list::calls::taken_second` meets its contract. Assumes nothing.
+-- `call_list::second::taken_second` meets its contract. Assumes nothing.
 use borrow.Author.Needs.{needs}
 use Rattle.call_list.proofs.KnownLaws.{none-known}
-use Rattle.call_list.proofs.calls.taken_second.Statement.{statement}
-use Rattle.call_list.proofs.calls.taken_second.Tie as tie
+use Rattle.call_list.proofs.second.taken_second.Statement.{statement}
+use Rattle.call_list.proofs.second.taken_second.Tie as tie
 
 at-most-requires : tie.Need-at-most-requires
 at-most-requires c κs = search needs
