@@ -1,13 +1,13 @@
--- What is proved of the rules, each theorem in document 01's words (of packing, document 02's), with the law that proves it. The words are those of
--- the crate rules; of this crate's own: `Accepted` (a state that calls may get), `Once` (each record from 1 to R stands once), `times` (how often a
--- record stands), `stateAfter` (the state after a round), `recordsTaken` (the free records that a round takes), `Alike` (different in record numbers
--- alone).
+-- What is proved of the rules, each theorem in document 01's words (of packing and of the moments of aggregates by cases, document 02's), with the law
+-- that proves it. The words are those of the crate rules; of this crate's own: `Accepted` (a state that calls may get), `Once` (each record from 1 to
+-- R stands once), `times` (how often a record stands), `stateAfter` (the state after a round), `recordsTaken` (the free records that a round takes),
+-- `Alike` (different in record numbers alone).
 use Prim.Native.Nat.{ℕ, _+_, _≤_, _<_, suc}
 use mathlib.Core.Path.{_≡_, _∙_}
 use mathlib.Core.Logic.{_⊎_}
 use mathlib.Core.Bool.{true, false}
-use mathlib.Core.List.{List, _∷_}
-use mathlib.Core.Option.{none}
+use mathlib.Core.List.{List, [], _∷_}
+use mathlib.Core.Option.{none, some}
 use native.Mathlib.Omega.{arith}
 use lib.ListN.{length, getD}
 use Rattle.rules.specs.Arguments.{Call, EventIn, pick-next, sim-network-stack}
@@ -19,6 +19,10 @@ use Rattle.rules.specs.ChoiceRound.{candidate, next, round, fits, roundSums}
 use Rattle.rules.specs.Choice.{choose, refused, rounds}
 use Rattle.rules.specs.Contents.{Agree}
 use Rattle.rules.specs.Packing.{packed}
+use Rattle.rules.specs.Basics.{Side, client, server}
+use Rattle.rules.specs.Aggregates.{aggregatesOf}
+use Rattle.rules.specs.AggregateMoments.{InCase, MomentCase, caseMoment}
+use Rattle.rules.proofs.MomentCases.{cases-exclude, cases-cover, cases-give}
 use Rattle.laws.specs.Accepted.{Accepted, only, times}
 use Rattle.laws.specs.Unplaced.{Alike}
 use Rattle.laws.specs.Packed.{packed-keeps, packed-alike, agree-packed, packed-agrees, packed-packed}
@@ -165,3 +169,20 @@ packing-twice-changes-nothing s = packed-packed s
 -- "A packed state gives the same further answers as its original."
 pub packed-state-answers-the-same : (l : List Call) (s : State) → answers (packed s) l ≡ answers s l
 packed-state-answers-the-same l s = list-reads-values l (packed s) s (packed-alike s) .0
+
+-- ---- aggregate moments by cases (document 02, M-110)
+
+-- "the cases exclude each other": end, record, network delay and length that are in two of them are in one and the same.
+pub moment-cases-exclude : (a b : MomentCase) (z r : Side) (d len : ℕ) → InCase a z r d len → InCase b z r d len → a ≡ b
+moment-cases-exclude a b z r d len = cases-exclude a b z r d len
+
+-- They "cover every input".
+pub moment-cases-cover : (z r : Side) (d len : ℕ) → (c : MomentCase) × InCase c z r d len
+moment-cases-cover z r d len = cases-cover z r d len
+
+-- They "give the moments that the subtraction gives": the two records that a delay leaves are due when their cases say.
+pub moment-cases-give :
+    (z : Side) (a b : MomentCase) (d at len : ℕ) → InCase a z client d len → InCase b z server d len
+    → aggregatesOf d z at (some len)
+    ≡ record { moment = caseMoment a d at len; length = len; side = client } ∷ record { moment = caseMoment b d at len; length = len; side = server } ∷ []
+moment-cases-give z a b d at len = cases-give d at len z a b

@@ -146,14 +146,19 @@ impl Length {
         Length(self.0 + l.0)
     }
 
-    // What is left of this length after another; 0 where the other is the longer.
-    pub fn beyond(self, l: Length) -> Length
+    // Whether it is longer than another.
+    pub fn exceeds(self, l: Length) -> bool
+        ensures { λ r. ⌜ r ≡ ltb (l .0) (self .0) ⌝ }
+    {
+        l.0 < self.0
+    }
+
+    // What is left of this length after another that is no longer.
+    pub fn less(self, l: Length) -> Length
+        requires { ⌜ l .0 ≤ self .0 ⌝ }
         ensures { λ r. ⌜ r .0 ≡ self .0 - l .0 ⌝ }
     {
-        if l.0 < self.0 {
-            return Length(self.0 - l.0);
-        }
-        Length(0)
+        Length(self.0 - l.0)
     }
 
     pub fn times(self, n: u64) -> Length

@@ -1,16 +1,19 @@
 -- Laws of the two aggregates of a delay. Assumes nothing.
-use Prim.Native.Nat.{ℕ, _+_, _-_, _*_}
-use mathlib.Core.Path.{_≡_, refl, sym, ap, ap₂, _∙_}
+use Prim.Native.Nat.{ℕ, _+_, _-_, _*_, _<_, _≤_}
+use mathlib.Core.Path.{_≡_, refl, sym, ap, ap₂, subst, _∙_}
 use mathlib.Core.Bool.{Bool, true, false, _&&_}
 use mathlib.Core.List.{List, [], _∷_, _++_}
 use mathlib.Core.Option.{some}
 use native.Mathlib.Omega.{arith}
-use lib.Dec.{leb}
+use lib.Dec.{leb, ltb}
+use borrow.Author.Tests.{ltb-true, ltb-false}
 use lib.ListN.{length}
 use Rattle.rules.specs.Basics.{Side, client, server}
 use Rattle.rules.specs.State.{Aggregate}
 use Rattle.rules.specs.Limits.{momentLimit}
 use Rattle.rules.specs.Aggregates.{aggregatesOf, someSum}
+use Rattle.rules.specs.AggregateMoments.{InCase, MomentCase, caseMoment, client-client-above, client-client-rest, client-server-above, client-server-rest, server-client-above, server-client-rest, server-server-above, server-server-rest}
+use Rattle.rules.proofs.MomentCases.{cases-exclude, cases-cover, cases-give}
 use Rattle.rules.specs.ChoiceRound.{fits}
 use Rattle.moment.specs.declared.Length.{Length}
 use Rattle.moment.specs.declared.Moment.{Moment}
@@ -21,7 +24,57 @@ use Rattle.delay.specs.declared.Base.{Base}
 use Rattle.delay.specs.declared.Base.the-variants.{Nothing as NoBase, At}
 use Rattle.delay.specs.Tests.{delayedOf, baseOf}
 use Rattle.network.specs.declared.aggregate.TwoAggregates.{TwoAggregates}
-use Rattle.network.specs.Due.{bothOf, moments}
+use Rattle.network.specs.Due.{ByCases, bothOf, moments}
+
+-- ---- the eight cases
+
+-- the case that it is settles when the record is due
+in-case : (a : MomentCase) (z r : Side) (d at len m : ℕ) → InCase a z r d len → m ≡ caseMoment a d at len → ByCases z r d at len m
+in-case a z r d at len m p e b q = e ∙ ap (λ x. caseMoment x d at len) (cases-exclude a b z r d len p q)
+
+-- x: the multiple of the network delay; t: whether it exceeds the length
+module _ (len x : ℕ) (t : Bool) (et : t ≡ ltb len x) where
+  over : t ≡ true → len < x
+  over e = ltb-true len x (sym et ∙ e)
+
+  under : t ≡ false → x ≤ len
+  under e = ltb-false len x (sym et ∙ e)
+
+  pub not-over : t ≡ true → len ≤ x
+  not-over e = omega (arith, over e)
+
+-- c: whether the record is the client's; y: what the multiple has more than the length
+module _ (d at len m : ℕ) (c t : Bool) where
+  pub client-client-after : (x y : ℕ) → c ≡ true → x ≡ d * 4 → t ≡ ltb len x → t ≡ true → y ≡ x - len → m ≡ at + y → ByCases client (sideOf c) d at len m
+  client-client-after x y e ex et h ey em = in-case client-client-above client (sideOf c) d at len m (refl, ap sideOf e, omega (arith, over len x t et h)) (omega arith)
+
+  pub client-client-at-once : (x : ℕ) → c ≡ true → x ≡ d * 4 → t ≡ ltb len x → t ≡ false → m ≡ at → ByCases client (sideOf c) d at len m
+  client-client-at-once x e ex et h em = in-case client-client-rest client (sideOf c) d at len m (refl, ap sideOf e, omega (arith, under len x t et h)) em
+
+  pub client-server-after : (x y : ℕ) → c ≡ false → x ≡ d * 3 → t ≡ ltb len x → t ≡ true → y ≡ x - len → m ≡ at + y → ByCases client (sideOf c) d at len m
+  client-server-after x y e ex et h ey em = in-case client-server-above client (sideOf c) d at len m (refl, ap sideOf e, omega (arith, over len x t et h)) (omega arith)
+
+  pub client-server-at-once : (x : ℕ) → c ≡ false → x ≡ d * 3 → t ≡ ltb len x → t ≡ false → m ≡ at → ByCases client (sideOf c) d at len m
+  client-server-at-once x e ex et h em = in-case client-server-rest client (sideOf c) d at len m (refl, ap sideOf e, omega (arith, under len x t et h)) em
+
+  pub server-client-after : (y : ℕ) → c ≡ true → t ≡ ltb len d → t ≡ true → y ≡ d - len → m ≡ at + y → ByCases server (sideOf c) d at len m
+  server-client-after y e et h ey em = in-case server-client-above server (sideOf c) d at len m (refl, ap sideOf e, omega (arith, over len d t et h)) (omega arith)
+
+  pub server-client-at-once : c ≡ true → t ≡ ltb len d → t ≡ false → m ≡ at → ByCases server (sideOf c) d at len m
+  server-client-at-once e et h em = in-case server-client-rest server (sideOf c) d at len m (refl, ap sideOf e, omega (arith, under len d t et h)) em
+
+  pub server-server-after : (x y : ℕ) → c ≡ false → x ≡ d * 4 → t ≡ ltb len x → t ≡ true → y ≡ x - len → m ≡ at + y → ByCases server (sideOf c) d at len m
+  server-server-after x y e ex et h ey em = in-case server-server-above server (sideOf c) d at len m (refl, ap sideOf e, omega (arith, over len x t et h)) (omega arith)
+
+  pub server-server-at-once : (x : ℕ) → c ≡ false → x ≡ d * 4 → t ≡ ltb len x → t ≡ false → m ≡ at → ByCases server (sideOf c) d at len m
+  server-server-at-once x e ex et h em = in-case server-server-rest server (sideOf c) d at len m (refl, ap sideOf e, omega (arith, under len x t et h)) em
+
+module _ (r : Side) (d at len m : ℕ) (c : Bool) where
+  pub due-client : c ≡ true → ByCases client r d at len m → ByCases (sideOf c) r d at len m
+  due-client e = subst (λ z. ByCases z r d at len m) (ap sideOf (sym e))
+
+  pub due-server : c ≡ false → ByCases server r d at len m → ByCases (sideOf c) r d at len m
+  due-server e = subst (λ z. ByCases z r d at len m) (ap sideOf (sym e))
 
 -- ---- both
 
@@ -29,28 +82,14 @@ use Rattle.network.specs.Due.{bothOf, moments}
 two : ℕ → ℕ → ℕ → List Aggregate
 two len a b = record { moment = a; length = len; side = client } ∷ record { moment = b; length = len; side = server } ∷ []
 
-module _ (d at : ℕ) (len : Length) (a b : Moment) where
-  pub client-end : (x y : ℕ) → x ≡ d * 4 → y ≡ d * 3 → a .0 ≡ at + (x - len .0) → b .0 ≡ at + (y - len .0)
-      → bothOf (record { client = record { moment = a; length = len; client = true }; server = record { moment = b; length = len; client = false } }) ≡ aggregatesOf d client at (some (len .0))
-  unfolding aggregatesOf two
-  client-end x y ex ey ea eb =
-      let p : a .0 ≡ at + (4 * d - len .0) = omega arith in
-      let q : b .0 ≡ at + (3 * d - len .0) = omega arith in
-      ap₂ (two (len .0)) p q
-
-  pub server-end : (y : ℕ) → y ≡ d * 4 → a .0 ≡ at + (d - len .0) → b .0 ≡ at + (y - len .0)
-      → bothOf (record { client = record { moment = a; length = len; client = true }; server = record { moment = b; length = len; client = false } }) ≡ aggregatesOf d server at (some (len .0))
-  unfolding aggregatesOf two
-  server-end y ey ea eb =
-      let q : b .0 ≡ at + (4 * d - len .0) = omega arith in
-      ap₂ (two (len .0)) ea q
-
-module _ (d at len : ℕ) (r : TwoAggregates) (c : Bool) where
-  pub both-client : c ≡ true → bothOf r ≡ aggregatesOf d client at (some len) → bothOf r ≡ aggregatesOf d (sideOf c) at (some len)
-  both-client e p = p ∙ ap (λ x. aggregatesOf d (sideOf x) at (some len)) (sym e)
-
-  pub both-server : c ≡ false → bothOf r ≡ aggregatesOf d server at (some len) → bothOf r ≡ aggregatesOf d (sideOf c) at (some len)
-  both-server e p = p ∙ ap (λ x. aggregatesOf d (sideOf x) at (some len)) (sym e)
+pub both-due :
+    (d at : ℕ) (len : Length) (a b : Moment) (z : Side) → ByCases z client d at (len .0) (a .0) → ByCases z server d at (len .0) (b .0)
+    → bothOf (record { client = record { moment = a; length = len; client = true }; server = record { moment = b; length = len; client = false } }) ≡ aggregatesOf d z at (some (len .0))
+unfolding two
+both-due d at len a b z p q =
+    let x = cases-cover z client d (len .0) in
+    let y = cases-cover z server d (len .0) in
+    ap₂ (two (len .0)) (p (x .0) (x .1)) (q (y .0) (y .1)) ∙ sym (cases-give d at (len .0) z (x .0) (y .0) (x .1) (y .1))
 
 -- ---- fit
 

@@ -98,6 +98,11 @@ pub record Edges : Type 0 where
       ≡ seen (yes-step ∷ yes-step ∷ event (packet TunnelRecv 11_500 0 client true false false) 2 ∷ yes-step ∷ done ∷ yes-step ∷ []) (aggregate 11_500 4000 client ∷ aggregate 11_500 4000 server ∷ aggregate 11_500 6000 client ∷ aggregate 11_500 6000 server ∷ aggregate 12_000 2000 server ∷ []) [] false
   -- ---- 4D, 3D and D of an aggregate, D = 20
 
+  -- client's block, length 59: client 80 - 59, server 60 - 59, not below 0
+  pub client-3D-below :
+      ran (openWith 20 none 1_000_000_000)
+      (setBlock client 100 100 ∷ pick-next 100 ∷ push (handedIn 0 141 client) ∷ pick-next 100 ∷ [])
+      ≡ seen (done ∷ event (plain BlockingBegin 100 client 0) 2 ∷ done ∷ event (plain BlockingEnd 200 client 0) 1 ∷ []) (aggregate 201 59 server ∷ aggregate 221 59 client ∷ []) [] false
   -- client's block, length 60: client 80 - 60, server 60 - 60, not below 0
   pub client-3D-at :
       ran (openWith 20 none 1_000_000_000)
@@ -108,6 +113,11 @@ pub record Edges : Type 0 where
       ran (openWith 20 none 1_000_000_000)
       (setBlock client 100 100 ∷ pick-next 100 ∷ push (handedIn 0 139 client) ∷ pick-next 100 ∷ [])
       ≡ seen (done ∷ event (plain BlockingBegin 100 client 0) 2 ∷ done ∷ event (plain BlockingEnd 200 client 0) 1 ∷ []) (aggregate 200 61 server ∷ aggregate 219 61 client ∷ []) [] false
+  -- client's block, length 79: client 80 - 79, server 60 - 79, not below 0
+  pub client-4D-below :
+      ran (openWith 20 none 1_000_000_000)
+      (setBlock client 100 100 ∷ pick-next 100 ∷ push (handedIn 0 121 client) ∷ pick-next 100 ∷ [])
+      ≡ seen (done ∷ event (plain BlockingBegin 100 client 0) 2 ∷ done ∷ event (plain BlockingEnd 200 client 0) 1 ∷ []) (aggregate 200 79 server ∷ aggregate 201 79 client ∷ []) [] false
   -- client's block, length 80: client 80 - 80, server 60 - 80, not below 0
   pub client-4D-at :
       ran (openWith 20 none 1_000_000_000)
@@ -118,6 +128,11 @@ pub record Edges : Type 0 where
       ran (openWith 20 none 1_000_000_000)
       (setBlock client 100 100 ∷ pick-next 100 ∷ push (handedIn 0 119 client) ∷ pick-next 100 ∷ [])
       ≡ seen (done ∷ event (plain BlockingBegin 100 client 0) 2 ∷ done ∷ event (plain BlockingEnd 200 client 0) 1 ∷ []) (aggregate 200 81 client ∷ aggregate 200 81 server ∷ []) [] false
+  -- server's block, length 19: client 20 - 19, server 80 - 19, not below 0
+  pub server-D-below :
+      ran (openWith 20 none 1_000_000_000)
+      (setBlock server 100 100 ∷ pick-next 100 ∷ push (handedIn 0 181 server) ∷ pick-next 100 ∷ [])
+      ≡ seen (done ∷ event (plain BlockingBegin 100 server 0) 2 ∷ done ∷ event (plain BlockingEnd 200 server 0) 1 ∷ []) (aggregate 201 19 client ∷ aggregate 261 19 server ∷ []) [] false
   -- server's block, length 20: client 20 - 20, server 80 - 20, not below 0
   pub server-D-at :
       ran (openWith 20 none 1_000_000_000)
@@ -128,6 +143,11 @@ pub record Edges : Type 0 where
       ran (openWith 20 none 1_000_000_000)
       (setBlock server 100 100 ∷ pick-next 100 ∷ push (handedIn 0 179 server) ∷ pick-next 100 ∷ [])
       ≡ seen (done ∷ event (plain BlockingBegin 100 server 0) 2 ∷ done ∷ event (plain BlockingEnd 200 server 0) 1 ∷ []) (aggregate 200 21 client ∷ aggregate 259 21 server ∷ []) [] false
+  -- server's block, length 79: client 20 - 79, server 80 - 79, not below 0
+  pub server-4D-below :
+      ran (openWith 20 none 1_000_000_000)
+      (setBlock server 100 100 ∷ pick-next 100 ∷ push (handedIn 0 121 server) ∷ pick-next 100 ∷ [])
+      ≡ seen (done ∷ event (plain BlockingBegin 100 server 0) 2 ∷ done ∷ event (plain BlockingEnd 200 server 0) 1 ∷ []) (aggregate 200 79 client ∷ aggregate 201 79 server ∷ []) [] false
   -- server's block, length 80: client 20 - 80, server 80 - 80, not below 0
   pub server-4D-at :
       ran (openWith 20 none 1_000_000_000)
@@ -241,12 +261,16 @@ edges = record {
   delayed-base-past = refl;
   client-sum-at = refl;
   client-sum-past = refl;
+  client-3D-below = refl;
   client-3D-at = refl;
   client-3D-past = refl;
+  client-4D-below = refl;
   client-4D-at = refl;
   client-4D-past = refl;
+  server-D-below = refl;
   server-D-at = refl;
   server-D-past = refl;
+  server-4D-below = refl;
   server-4D-at = refl;
   server-4D-past = refl;
   tail-at-end = refl;

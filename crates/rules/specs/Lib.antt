@@ -3,6 +3,7 @@ pub mod Limits
 pub mod State
 pub mod Queueing
 pub mod Aggregates
+pub mod AggregateMoments
 pub mod ChoiceHeads
 pub mod ChoiceDelays
 pub mod ChoiceRound
@@ -21,3 +22,4 @@ pub mod Cases
 pub mod Edges
 pub mod TableCases
 pub mod PackingCases
+pub mod MomentExamples

@@ -1,20 +1,17 @@
 -- `network::aggregate::both` meets its contract. Assumes nothing.
 use borrow.Author.Needs.{needs}
-use Rattle.network.proofs.DueLaws.{both-client, both-server}
+use Rattle.network.proofs.DueLaws.{both-due}
 use Rattle.network.proofs.aggregate.both.Statement.{statement}
 use Rattle.network.proofs.aggregate.both.Tie as tie
 
-at-client-requires : tie.Need-at-client-requires
-at-client-requires c κs = search needs
+due-requires : tie.Need-due-requires
+due-requires c κs = search needs
+
+due-requires-2 : tie.Need-due-requires-2
+due-requires-2 c κs = search needs
 
 returns : tie.Need-returns
-returns c = search both-client
-
-at-server-requires : tie.Need-at-server-requires
-at-server-requires c κs = search needs
-
-returns-2 : tie.Need-returns-2
-returns-2 c = search both-server
+returns c = both-due _ _ _ _ _ _ (c .before .due .ensures) (c .due2 .ensures)
 
 pub both-spec : {M : Type 1} → statement M
-both-spec = tie.close (tie.spec at-client-requires returns at-server-requires returns-2)
+both-spec = tie.close (tie.spec due-requires due-requires-2 returns)
