@@ -13,63 +13,7 @@ use Rattle.rules.specs.State.{Aggregate}
 use Rattle.rules.specs.Aggregates.{aggregatesOf}
 use Rattle.rules.specs.AggregateMoments.{InCase, MomentCase, caseMoment, client-client-above, client-client-rest, client-server-above, client-server-rest, server-client-above, server-client-rest, server-server-above, server-server-rest}
 
--- ---- the case that a test makes
-
-abbrev between : MomentCase → MomentCase → ℕ → ℕ → MomentCase
-between above rest m len = if ltb len m then above else rest
-
-abbrev caseOf : Side → Side → ℕ → ℕ → MomentCase
-caseOf client client d len = between client-client-above client-client-rest (4 * d) len
-caseOf client server d len = between client-server-above client-server-rest (3 * d) len
-caseOf server client d len = between server-client-above server-client-rest d len
-caseOf server server d len = between server-server-above server-server-rest (4 * d) len
-
-module _ (z r x y : Side) (d len m : ℕ) (above rest : MomentCase) (ez : z ≡ x) (er : r ≡ y) (is : caseOf x y d len ≡ between above rest m len) where
-  made : caseOf z r d len ≡ between above rest m len
-  made = ap₂ (λ u v. caseOf u v d len) ez er ∙ is
-
-  made-above : len < m → caseOf z r d len ≡ above
-  made-above h = made ∙ ap (λ t. if t then above else rest) (lt-ltb len m h)
-
-  made-rest : m ≤ len → caseOf z r d len ≡ rest
-  made-rest h = made ∙ ap (λ t. if t then above else rest) (le-ltb len m h)
-
-is-case : (c : MomentCase) (z r : Side) (d len : ℕ) → InCase c z r d len → caseOf z r d len ≡ c
-is-case client-client-above z r d len h = made-above z r client client d len (4 * d) client-client-above client-client-rest (h .0) (h .1) refl (h .2)
-is-case client-client-rest z r d len h = made-rest z r client client d len (4 * d) client-client-above client-client-rest (h .0) (h .1) refl (h .2)
-is-case client-server-above z r d len h = made-above z r client server d len (3 * d) client-server-above client-server-rest (h .0) (h .1) refl (h .2)
-is-case client-server-rest z r d len h = made-rest z r client server d len (3 * d) client-server-above client-server-rest (h .0) (h .1) refl (h .2)
-is-case server-client-above z r d len h = made-above z r server client d len d server-client-above server-client-rest (h .0) (h .1) refl (h .2)
-is-case server-client-rest z r d len h = made-rest z r server client d len d server-client-above server-client-rest (h .0) (h .1) refl (h .2)
-is-case server-server-above z r d len h = made-above z r server server d len (4 * d) server-server-above server-server-rest (h .0) (h .1) refl (h .2)
-is-case server-server-rest z r d len h = made-rest z r server server d len (4 * d) server-server-above server-server-rest (h .0) (h .1) refl (h .2)
-
--- ---- what is proved of the cases
-
--- "the cases exclude each other": an input that is in two of them is in one
-pub cases-exclude : (a b : MomentCase) (z r : Side) (d len : ℕ) → InCase a z r d len → InCase b z r d len → a ≡ b
-cases-exclude a b z r d len p q = sym (is-case a z r d len p) ∙ is-case b z r d len q
-
--- a multiple is above the length or not
-split : (P : Type 0) (m len : ℕ) → (len < m → P) → (m ≤ len → P) → P
-split P m len above rest = go (ltb len m) refl
-  where
-    go : (t : Bool) → ltb len m ≡ t → P
-    go true e = above (ltb-true len m e)
-    go false e = rest (ltb-false len m e)
-
--- "cover every input"
-pub cases-cover : (z r : Side) (d len : ℕ) → (c : MomentCase) × InCase c z r d len
-cases-cover client client d len =
-    split ((c : MomentCase) × InCase c client client d len) (4 * d) len (λ h. (client-client-above, (refl, refl, h))) (λ h. (client-client-rest, (refl, refl, h)))
-cases-cover client server d len =
-    split ((c : MomentCase) × InCase c client server d len) (3 * d) len (λ h. (client-server-above, (refl, refl, h))) (λ h. (client-server-rest, (refl, refl, h)))
-cases-cover server client d len =
-    split ((c : MomentCase) × InCase c server client d len) d len (λ h. (server-client-above, (refl, refl, h))) (λ h. (server-client-rest, (refl, refl, h)))
-cases-cover server server d len =
-    split ((c : MomentCase) × InCase c server server d len) (4 * d) len (λ h. (server-server-above, (refl, refl, h))) (λ h. (server-server-rest, (refl, refl, h)))
-
--- ---- the subtraction
+-- ---- end and record, the multiple above the length or not
 
 abbrev multiple : Side → Side → ℕ
 multiple client client = 4
@@ -77,22 +21,74 @@ multiple client server = 3
 multiple server client = 1
 multiple server server = 4
 
+abbrev above : Side → Side → MomentCase
+above client client = client-client-above
+above client server = client-server-above
+above server client = server-client-above
+above server server = server-server-above
+
+abbrev rest : Side → Side → MomentCase
+rest client client = client-client-rest
+rest client server = client-server-rest
+rest server client = server-client-rest
+rest server server = server-server-rest
+
+abbrev caseOf : Side → Side → ℕ → ℕ → MomentCase
+caseOf z r d len = if ltb len (multiple z r * d) then above z r else rest z r
+
+-- ---- what is proved of the cases
+
+-- "the cases exclude each other": an input that is in two of them is in one
+pub cases-exclude : (a b : MomentCase) (z r : Side) (d len : ℕ) → InCase a z r d len → InCase b z r d len → a ≡ b
+cases-exclude a b z r d len p q = sym (is-case a p) ∙ is-case b q
+  where
+    at-sides : (x y : Side) → z ≡ x → r ≡ y → caseOf z r d len ≡ caseOf x y d len
+    at-sides x y ez er = ap₂ (λ u v. caseOf u v d len) ez er
+
+    is-above : (x y : Side) → z ≡ x → r ≡ y → len < multiple x y * d → caseOf z r d len ≡ above x y
+    is-above x y ez er h = at-sides x y ez er ∙ ap (λ t. if t then above x y else rest x y) (lt-ltb len (multiple x y * d) h)
+
+    is-rest : (x y : Side) → z ≡ x → r ≡ y → multiple x y * d ≤ len → caseOf z r d len ≡ rest x y
+    is-rest x y ez er h = at-sides x y ez er ∙ ap (λ t. if t then above x y else rest x y) (le-ltb len (multiple x y * d) h)
+
+    is-case : (c : MomentCase) → InCase c z r d len → caseOf z r d len ≡ c
+    is-case client-client-above h = is-above client client (h .0) (h .1) (omega (arith, h .2))
+    is-case client-client-rest h = is-rest client client (h .0) (h .1) (omega (arith, h .2))
+    is-case client-server-above h = is-above client server (h .0) (h .1) (omega (arith, h .2))
+    is-case client-server-rest h = is-rest client server (h .0) (h .1) (omega (arith, h .2))
+    is-case server-client-above h = is-above server client (h .0) (h .1) (omega (arith, h .2))
+    is-case server-client-rest h = is-rest server client (h .0) (h .1) (omega (arith, h .2))
+    is-case server-server-above h = is-above server server (h .0) (h .1) (omega (arith, h .2))
+    is-case server-server-rest h = is-rest server server (h .0) (h .1) (omega (arith, h .2))
+
+-- "cover every input"
+pub cases-cover : (z r : Side) (d len : ℕ) → (c : MomentCase) × InCase c z r d len
+cases-cover z r d len = go (ltb len (multiple z r * d)) refl
+  where
+    in-above : (x y : Side) → len < multiple x y * d → InCase (above x y) x y d len
+    in-above client client h = (refl, refl, omega (arith, h))
+    in-above client server h = (refl, refl, omega (arith, h))
+    in-above server client h = (refl, refl, omega (arith, h))
+    in-above server server h = (refl, refl, omega (arith, h))
+
+    in-rest : (x y : Side) → multiple x y * d ≤ len → InCase (rest x y) x y d len
+    in-rest client client h = (refl, refl, omega (arith, h))
+    in-rest client server h = (refl, refl, omega (arith, h))
+    in-rest server client h = (refl, refl, omega (arith, h))
+    in-rest server server h = (refl, refl, omega (arith, h))
+
+    go : (t : Bool) → ltb len (multiple z r * d) ≡ t → (c : MomentCase) × InCase c z r d len
+    go true e = (above z r, in-above z r (ltb-true len (multiple z r * d) e))
+    go false e = (rest z r, in-rest z r (ltb-false len (multiple z r * d) e))
+
+-- ---- the subtraction
+
 module _ (d at len : ℕ) where
   abbrev lowered : Side → Side → ℕ
   lowered z r = at + (multiple z r * d - len)
 
   to : (z r x y : Side) (m : ℕ) → z ≡ x → r ≡ y → m ≡ lowered x y → m ≡ lowered z r
   to z r x y m ez er e = e ∙ ap₂ lowered (sym ez) (sym er)
-
-  case-subtracts : (c : MomentCase) (z r : Side) → InCase c z r d len → caseMoment c d at len ≡ lowered z r
-  case-subtracts client-client-above z r h = to z r client client _ (h .0) (h .1) refl
-  case-subtracts client-client-rest z r h = to z r client client _ (h .0) (h .1) (omega (arith, h .2))
-  case-subtracts client-server-above z r h = to z r client server _ (h .0) (h .1) refl
-  case-subtracts client-server-rest z r h = to z r client server _ (h .0) (h .1) (omega (arith, h .2))
-  case-subtracts server-client-above z r h = to z r server client _ (h .0) (h .1) (omega arith)
-  case-subtracts server-client-rest z r h = to z r server client _ (h .0) (h .1) (omega (arith, h .2))
-  case-subtracts server-server-above z r h = to z r server server _ (h .0) (h .1) refl
-  case-subtracts server-server-rest z r h = to z r server server _ (h .0) (h .1) (omega (arith, h .2))
 
   abbrev two : ℕ → ℕ → List Aggregate
   two a b = record { moment = a; length = len; side = client } ∷ record { moment = b; length = len; side = server } ∷ []
@@ -110,3 +106,13 @@ module _ (d at len : ℕ) where
       → aggregatesOf d z at (some len)
       ≡ record { moment = caseMoment a d at len; length = len; side = client } ∷ record { moment = caseMoment b d at len; length = len; side = server } ∷ []
   cases-give z a b p q = subtracts z ∙ ap₂ two (sym (case-subtracts a z client p)) (sym (case-subtracts b z server q))
+    where
+      case-subtracts : (c : MomentCase) (z r : Side) → InCase c z r d len → caseMoment c d at len ≡ lowered z r
+      case-subtracts client-client-above z r h = to z r client client _ (h .0) (h .1) refl
+      case-subtracts client-client-rest z r h = to z r client client _ (h .0) (h .1) (omega (arith, h .2))
+      case-subtracts client-server-above z r h = to z r client server _ (h .0) (h .1) refl
+      case-subtracts client-server-rest z r h = to z r client server _ (h .0) (h .1) (omega (arith, h .2))
+      case-subtracts server-client-above z r h = to z r server client _ (h .0) (h .1) (omega arith)
+      case-subtracts server-client-rest z r h = to z r server client _ (h .0) (h .1) (omega (arith, h .2))
+      case-subtracts server-server-above z r h = to z r server server _ (h .0) (h .1) refl
+      case-subtracts server-server-rest z r h = to z r server server _ (h .0) (h .1) (omega (arith, h .2))
