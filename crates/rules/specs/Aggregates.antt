@@ -75,7 +75,7 @@ abbrev pub testSums : SideState → ℕ → ℕ → List ℕ
 testSums x sum u = if anyWithin adjacentWindow u (waiting x) then [] else someSum (baseMoment sum (x .queues .base))
 
 -- `push_aggregate_delay`: a delay of length len at a side's end, at the moment given, with network delay d. One record for each side's sum, the
--- client's first; its moment is lowered by the length, to the moment given at the least
+-- client's first; its moment is lowered by the length, to the moment given at the least. AggregateMoments says the same as plain cases
 unfoldable pub aggregatesOf : ℕ → Side → ℕ → Option ℕ → List Aggregate
 aggregatesOf d z at none = []
 aggregatesOf d client at (some len) =
