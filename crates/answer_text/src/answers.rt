@@ -6,8 +6,10 @@ use crate::text;
 use event::SimEvent;
 use event::answer::Answer;
 use event::answer::Choice;
+use event::answer::Falls;
 use event::answer::Refusal;
 use event::answer::Step;
+use event::answer::Stepped;
 
 // The event's eight words, each after a space.
 pub(crate) fn put_event(out: &mut [u8], used: usize, e: SimEvent) -> usize
@@ -54,9 +56,19 @@ pub fn told_step(out: &mut [u8], used: usize, a: Step) -> usize
     ensures { λ u. ⌜ u ≤ length (now (out .exit)) ⌝ }
 {
     match a {
-        Step::Made(s) => told_activity(out, used, s.active),
+        Step::Made(s) => told_made(out, used, s),
         Step::Refused(r) => refused(out, used, r),
     }
+}
+
+fn told_made(out: &mut [u8], used: usize, s: Stepped) -> usize
+    requires { ⌜ used ≤ length (now out) ⌝ }
+    ensures { λ u. ⌜ u ≤ length (now (out .exit)) ⌝ }
+{
+    let at = told_activity(out, used, s.active);
+    let falls = s.falls;
+    let end = told_falls(out, at, falls);
+    text::put(out, end, b"\n")
 }
 
 fn told_activity(out: &mut [u8], used: usize, active: bool) -> usize
@@ -64,9 +76,21 @@ fn told_activity(out: &mut [u8], used: usize, active: bool) -> usize
     ensures { λ u. ⌜ u ≤ length (now (out .exit)) ⌝ }
 {
     if active {
-        return text::put(out, used, b"yes\n");
+        return text::put(out, used, b"yes");
     }
-    text::put(out, used, b"no\n")
+    text::put(out, used, b"no")
+}
+
+// When the packet count falls, or `-`.
+fn told_falls(out: &mut [u8], used: usize, falls: Falls) -> usize
+    requires { ⌜ used ≤ length (now out) ⌝ }
+    ensures { λ u. ⌜ u ≤ length (now (out .exit)) ⌝ }
+{
+    let at = text::put(out, used, b" falls");
+    match falls {
+        Falls::Never => text::put(out, at, b" -"),
+        Falls::At(t) => text::put_next(out, at, t.0),
+    }
 }
 
 fn told_rounds(out: &mut [u8], used: usize, rounds: u64) -> usize

@@ -3,14 +3,14 @@ use Prim.Native.Nat.{ℕ, _≤_, _<_, max}
 use mathlib.Core.Path.{_≡_, refl, sym, ap, subst, _∙_}
 use mathlib.Core.Bool.{Bool, true, false}
 use mathlib.Core.List.{List, [], _∷_, _++_}
-use mathlib.Core.Option.{Option}
+use mathlib.Core.Option.{Option, none, some}
 use native.Mathlib.Omega.{arith}
 use lib.Dec.{ltb}
 use lib.ListN.{getD}
 use borrow.Author.Tests.{eq-eqb, ne-eqb, ltb-true, ltb-false}
 use Rattle.rules.specs.Basics.{if_then_else_}
 use Rattle.rules.specs.State.{Event}
-use Rattle.rules.specs.Choice.{Answer, done, event, nothing-left, yes-step, no-step, refused}
+use Rattle.rules.specs.Choice.{Answer, done, event, nothing-left, step-made, refused}
 use Rattle.rules.specs.Arguments.{Call, EventIn, ActionIn, push, set-action, clear-action, set-timer, clear-timer, pick-next, sim-network-stack}
 use Rattle.event.specs.Answers.{answerOf, choiceOf, chosenAs, stepOf}
 use Rattle.event.specs.HandedIn.{sideOf, eventIn}
@@ -39,53 +39,55 @@ use Rattle.event.specs.declared.answer.Choice.the-variants as choice
 
 -- ---- answers as words
 
--- ten words, one by one
-spread : (a : Answer) (n : ℕ) → (getD (choiceWords a) 0 0 ∷ getD (choiceWords a) 1 0 ∷ getD (choiceWords a) 2 0 ∷ getD (choiceWords a) 3 0 ∷ getD (choiceWords a) 4 0 ∷ getD (choiceWords a) 5 0 ∷ getD (choiceWords a) 6 0 ∷ getD (choiceWords a) 7 0 ∷ getD (choiceWords a) 8 0 ∷ getD (choiceWords a) 9 0 ∷ n ∷ []) ≡ choiceWords a ++ (n ∷ [])
-spread done n = refl
-spread (event e k) n = refl
-spread (nothing-left k) n = refl
-spread yes-step n = refl
-spread no-step n = refl
-spread (refused m k) n = refl
+-- ten words, one by one, before others
+spread : (a : Answer) (l : List ℕ) → (getD (choiceWords a) 0 0 ∷ getD (choiceWords a) 1 0 ∷ getD (choiceWords a) 2 0 ∷ getD (choiceWords a) 3 0 ∷ getD (choiceWords a) 4 0 ∷ getD (choiceWords a) 5 0 ∷ getD (choiceWords a) 6 0 ∷ getD (choiceWords a) 7 0 ∷ getD (choiceWords a) 8 0 ∷ getD (choiceWords a) 9 0 ∷ l) ≡ choiceWords a ++ l
+spread done l = refl
+spread (event e k) l = refl
+spread (nothing-left k) l = refl
+spread (step-made b f) l = refl
+spread (refused m k) l = refl
 
-abbrev laid : ℕ → List ℕ → ℕ → List ℕ
-laid n w s = n ∷ getD w 0 0 ∷ getD w 1 0 ∷ getD w 2 0 ∷ getD w 3 0 ∷ getD w 4 0 ∷ getD w 5 0 ∷ getD w 6 0 ∷ getD w 7 0 ∷ getD w 8 0 ∷ getD w 9 0 ∷ s ∷ []
+abbrev laid : ℕ → List ℕ → List ℕ → List ℕ
+laid n w l = n ∷ getD w 0 0 ∷ getD w 1 0 ∷ getD w 2 0 ∷ getD w 3 0 ∷ getD w 4 0 ∷ getD w 5 0 ∷ getD w 6 0 ∷ getD w 7 0 ∷ getD w 8 0 ∷ getD w 9 0 ∷ l
 
-laid-out : (a : Answer) (n : ℕ) (w : List ℕ) (s : ℕ) (m : ℕ) → n ≡ m → w ≡ choiceWords a → laid n w s ≡ m ∷ choiceWords a ++ (s ∷ [])
-laid-out a n w s m en ew = (λ d. laid (en d) (ew d) s) ∙ ap (λ (l : List ℕ). m ∷ l) (spread a s)
+laid-out : (a : Answer) (n : ℕ) (w l : List ℕ) (m : ℕ) → n ≡ m → w ≡ choiceWords a → laid n w l ≡ m ∷ choiceWords a ++ l
+laid-out a n w l m en ew = (λ d. laid (en d) (ew d) l) ∙ ap (λ (x : List ℕ). m ∷ x) (spread a l)
 
-pub choice-laid : (a : Answer) (n : ℕ) (w : List ℕ) → n ≡ numberIn a → w ≡ choiceWords a → laid n w 0 ≡ numberIn a ∷ choiceWords a ++ zeros 1
-choice-laid a n w en ew = laid-out a n w 0 (numberIn a) en ew
+pub choice-laid : (a : Answer) (n : ℕ) (w : List ℕ) → n ≡ numberIn a → w ≡ choiceWords a → laid n w (zeros 5) ≡ numberIn a ∷ choiceWords a ++ zeros 5
+choice-laid a n w en ew = laid-out a n w (zeros 5) (numberIn a) en ew
 
-one-word : (b : Answer) → (getD (stepWords b) 0 0 ∷ []) ≡ stepWords b
-one-word done = refl
-one-word (event e k) = refl
-one-word (nothing-left k) = refl
-one-word yes-step = refl
-one-word no-step = refl
-one-word (refused n k) = refl
+-- three words, one by one, before others
+abbrev three : List ℕ → List ℕ → List ℕ
+three s l = getD s 0 0 ∷ getD s 1 0 ∷ getD s 2 0 ∷ l
 
-pub step-laid : (b : Answer) (n : ℕ) (w : List ℕ) → n ≡ numberIn b → w ≡ stepWords b → (n ∷ getD w 0 0 ∷ zeros 10) ≡ numberIn b ∷ stepWords b ++ zeros 10
-step-laid b n w en ew = (λ d. en d ∷ getD (ew d) 0 0 ∷ zeros 10) ∙ ap (λ (l : List ℕ). numberIn b ∷ (l ++ zeros 10)) (one-word b)
+three-words : (b : Answer) (l : List ℕ) → three (stepWords b) l ≡ stepWords b ++ l
+three-words done l = refl
+three-words (event e k) l = refl
+three-words (nothing-left k) l = refl
+three-words (step-made a none) l = refl
+three-words (step-made a (some m)) l = refl
+three-words (refused n k) l = refl
+
+pub step-laid : (b : Answer) (n : ℕ) (w : List ℕ) → n ≡ numberIn b → w ≡ stepWords b → (n ∷ three w (zeros 12)) ≡ numberIn b ∷ stepWords b ++ zeros 12
+step-laid b n w en ew = (λ d. en d ∷ three (ew d) (zeros 12)) ∙ ap (λ (l : List ℕ). numberIn b ∷ l) (three-words b (zeros 12))
 
 pub turn-laid :
-    (a b : Answer) (n : ℕ) (w s : List ℕ) → n ≡ numberIn b → w ≡ choiceWords a → s ≡ stepWords b → laid n w (getD s 0 0) ≡ turnWords a b
+    (a b : Answer) (n : ℕ) (w s : List ℕ) → n ≡ numberIn b → w ≡ choiceWords a → s ≡ stepWords b → laid n w (three s (zeros 2)) ≡ turnWords a b
 turn-laid a b n w s en ew es =
-    laid-out a n w (getD s 0 0) (numberIn b) en ew
-    ∙ ap (λ (x : List ℕ). numberIn b ∷ choiceWords a ++ (getD x 0 0 ∷ [])) es
-    ∙ ap (λ (x : List ℕ). numberIn b ∷ choiceWords a ++ x) (one-word b)
+    laid-out a n w (three s (zeros 2)) (numberIn b) en ew
+    ∙ ap (λ (x : List ℕ). numberIn b ∷ choiceWords a ++ x) (ap (λ (x : List ℕ). three x (zeros 2)) es ∙ three-words b (zeros 2))
 
 -- ---- a call of a row
 
 -- a call whose answer is a number alone
 abbrev plain : Call → Type 0
-plain c = (a : Answer) → (numberIn a ∷ zeros 11) ≡ answerWords c a
+plain c = (a : Answer) → (numberIn a ∷ zeros 15) ≡ answerWords c a
 
 plain-made :
     (w : List ℕ) (c d : Call) (a : CodeAnswer) (left : List ℕ) (n : ℕ) (words : List ℕ) → c ≡ d → plain d → Outcome w c (answerOf a) left
-    → n ≡ numberIn (answerOf a) → words ≡ n ∷ zeros 11 → CallMade w d words left
+    → n ≡ numberIn (answerOf a) → words ≡ n ∷ zeros 15 → CallMade w d words left
 plain-made w c d a left n words e p o en ew =
-    record { answer = answerOf a; outcome = subst (λ (x : Call). Outcome w x (answerOf a) left) e o; is = ew ∙ ap (λ (x : ℕ). x ∷ zeros 11) en ∙ p (answerOf a) }
+    record { answer = answerOf a; outcome = subst (λ (x : Call). Outcome w x (answerOf a) left) e o; is = ew ∙ ap (λ (x : ℕ). x ∷ zeros 15) en ∙ p (answerOf a) }
 
 push-plain : (e : EventIn) → plain (push e)
 unfolding answerWords
@@ -121,7 +123,7 @@ action-words k m d b q k′ m′ d′ b′ q′ e1 e2 e3 e4 e5 = λ i. actionFor
 slot-words : (z : Bool) (side machine s m : ℕ) → z ≡ isSet side → side ≡ s → machine ≡ m → slotIn z machine ≡ slotFor s m
 slot-words z side machine s m ez es em = slot-is z side machine ez ∙ (λ i. slotFor (es i) (em i))
 
-module _ (w : List ℕ) (a : CodeAnswer) (left : List ℕ) (n : ℕ) (words : List ℕ) (en : n ≡ numberIn (answerOf a)) (ew : words ≡ n ∷ zeros 11) where
+module _ (w : List ℕ) (a : CodeAnswer) (left : List ℕ) (n : ℕ) (words : List ℕ) (en : n ≡ numberIn (answerOf a)) (ew : words ≡ n ∷ zeros 15) where
   pub push-made : (e f : EventIn) → e ≡ f → Outcome w (push e) (answerOf a) left → CallMade w (push f) words left
   push-made e f ee o = plain-made w (push e) (push f) a left n words (ap push ee) (push-plain f) o en ew
 
@@ -144,15 +146,15 @@ module _ (w : List ℕ) (a : CodeAnswer) (left : List ℕ) (n : ℕ) (words : Li
 
 pub choice-made :
     (w : List ℕ) (t u : ℕ) (a : Choice) (left words : List ℕ) → t ≡ u → Outcome w (pick-next t) (choiceOf a) left
-    → words ≡ numberIn (choiceOf a) ∷ choiceWords (choiceOf a) ++ zeros 1 → CallMade w (pick-next u) words left
+    → words ≡ numberIn (choiceOf a) ∷ choiceWords (choiceOf a) ++ zeros 5 → CallMade w (pick-next u) words left
 unfolding answerWords
 choice-made w t u a left words et o e = record { answer = choiceOf a; outcome = subst (λ (x : ℕ). Outcome w (pick-next x) (choiceOf a) left) et o; is = e }
 
-pub step-made :
+pub stepped-made :
     (w : List ℕ) (t u : ℕ) (e f : EventIn) (a : Step) (left words : List ℕ) → t ≡ u → e ≡ f → Outcome w (sim-network-stack t e) (stepOf a) left
-    → words ≡ numberIn (stepOf a) ∷ stepWords (stepOf a) ++ zeros 10 → CallMade w (sim-network-stack u f) words left
+    → words ≡ numberIn (stepOf a) ∷ stepWords (stepOf a) ++ zeros 12 → CallMade w (sim-network-stack u f) words left
 unfolding answerWords
-step-made w t u e f a left words et ee o es =
+stepped-made w t u e f a left words et ee o es =
     record { answer = stepOf a; outcome = subst (λ (x : Call). Outcome w x (stepOf a) left) (λ i. sim-network-stack (et i) (ee i)) o; is = es }
 
 -- ---- the call of a code
@@ -199,14 +201,14 @@ module _ (w : List ℕ) (t : ℕ) (acc : Accepted w) (a : Choice) (mid : List �
   chose = record { call = pick-next t; answer = choiceOf a; left = mid }
 
   -- the choice gave no event
-  short : (words : List ℕ) → [] ≡ stepAfter (choiceOf a) → words ≡ numberIn (choiceOf a) ∷ choiceWords (choiceOf a) ++ zeros 1 → TurnMade w t words mid
+  short : (words : List ℕ) → [] ≡ stepAfter (choiceOf a) → words ≡ numberIn (choiceOf a) ∷ choiceWords (choiceOf a) ++ zeros 5 → TurnMade w t words mid
   unfolding answerWords
   short words d e = record { made = chose ∷ []; runs = (o, tt); calls = ap (λ (l : List Call). pick-next t ∷ l) d; leaves = refl; is = e }
 
-  pub turn-none : (f : Finished) (words : List ℕ) → a ≡ choice.Nothing f → words ≡ numberIn (choiceOf a) ∷ choiceWords (choiceOf a) ++ zeros 1 → TurnMade w t words mid
+  pub turn-none : (f : Finished) (words : List ℕ) → a ≡ choice.Nothing f → words ≡ numberIn (choiceOf a) ∷ choiceWords (choiceOf a) ++ zeros 5 → TurnMade w t words mid
   turn-none f words d e = short words (ap (λ (x : Choice). stepAfter (choiceOf x)) (sym d)) e
 
-  pub turn-refused : (r : Refusal) (words : List ℕ) → a ≡ choice.Refused r → words ≡ numberIn (choiceOf a) ∷ choiceWords (choiceOf a) ++ zeros 1 → TurnMade w t words mid
+  pub turn-refused : (r : Refusal) (words : List ℕ) → a ≡ choice.Refused r → words ≡ numberIn (choiceOf a) ∷ choiceWords (choiceOf a) ++ zeros 5 → TurnMade w t words mid
   turn-refused r words d e = short words (ap (λ (x : Choice). stepAfter (choiceOf x)) (sym d)) e
 
   -- an event that is chosen is the one that its step is handed
@@ -272,7 +274,7 @@ module _ (w rows : List ℕ) (i last : ℕ) (words left : List ℕ) where
       }
 
 -- a refusal has no word but its number
-refused-words : (c : Call) (n : ℕ) → n ∷ zeros 11 ≡ answerWords c (refused n 0)
+refused-words : (c : Call) (n : ℕ) → n ∷ zeros 15 ≡ answerWords c (refused n 0)
 unfolding answerWords
 refused-words (push e) n = refl
 refused-words (set-action z r) n = refl
@@ -283,7 +285,7 @@ refused-words (pick-next t) n = refl
 refused-words (sim-network-stack t e) n = refl
 
 -- words that are refused are refused by every row
-pub bad-made : (w rows : List ℕ) (i last n : ℕ) (words : List ℕ) → Lent w n → (n ≡ 0 → ⊥) → words ≡ n ∷ zeros 11 → RowMade w rows i last words w
+pub bad-made : (w rows : List ℕ) (i last n : ℕ) (words : List ℕ) → Lent w n → (n ≡ 0 → ⊥) → words ≡ n ∷ zeros 15 → RowMade w rows i last words w
 unfolding rowCalls
 bad-made w rows i last n words l d e = go (isTurn (codeAt rows i)) refl
   where

@@ -12,15 +12,18 @@ use lib.Seq.{take-length, drop-length}
 use borrow.Author.Tests.{eq-eqb, ne-eqb}
 use mir.Val.{boolByte}
 use Rattle.rules.specs.Basics.{if_then_else_}
-use Rattle.rules.specs.Choice.{Answer}
+use Rattle.rules.specs.Choice.{Answer, step-made}
 use Rattle.rules.specs.State.{Event}
 use Rattle.rules.specs.Arguments.{Call}
 use Rattle.event.specs.HandedIn.{sideOf}
 use Rattle.event.specs.Values.{knownEvent}
-use Rattle.event.specs.Answers.{choiceOf, chosenAs, yesOrNo, stepOf}
+use Rattle.event.specs.Answers.{choiceOf, chosenAs, fallsOf, stepOf}
 use Rattle.event.specs.declared.SimEvent.{SimEvent}
+use Rattle.moment.specs.declared.Moment.{Moment}
 use Rattle.event.specs.declared.answer.Choice.{Choice}
 use Rattle.event.specs.declared.answer.Chosen.{Chosen}
+use Rattle.event.specs.declared.answer.Falls.{Falls}
+use Rattle.event.specs.declared.answer.Falls.the-variants.{Never, At}
 use Rattle.event.specs.declared.answer.Step.{Step}
 use Rattle.event.specs.declared.answer.Step.the-variants.{Made}
 use Rattle.event.specs.declared.answer.Stepped.{Stepped}
@@ -64,19 +67,18 @@ chosen-number (some e) rounds = refl
 pub event-number : (a : Choice) (c : Chosen) → a ≡ choice.Event c → 0 ≡ numberIn (choiceOf a)
 event-number a c e = chosen-number (knownEvent (c .event)) (c .rounds) ∙ ap (λ (x : Choice). numberIn (choiceOf x)) (sym e)
 
-flag-words : (b : Bool) → (flagWord b ∷ []) ≡ stepWords (yesOrNo b)
-flag-words true = refl
-flag-words false = refl
+-- a step that is made, without a moment and with one
+pub made-never : (a : Step) (m : Stepped) (n : ℕ) → n ≡ flagWord (m .active) → a ≡ Made m → m .falls ≡ Never → (n ∷ 0 ∷ 0 ∷ []) ≡ stepWords (stepOf a)
+made-never a m n f e q =
+    ap (λ (x : ℕ). x ∷ 0 ∷ 0 ∷ []) f ∙ ap (λ (x : Falls). stepWords (step-made (m .active) (fallsOf x))) (sym q) ∙ ap (λ (x : Step). stepWords (stepOf x)) (sym e)
 
-pub made-is : (a : Step) (m : Stepped) (n : ℕ) → n ≡ flagWord (m .active) → a ≡ Made m → (n ∷ []) ≡ stepWords (stepOf a)
-made-is a m n f e = ap (λ (x : ℕ). x ∷ []) f ∙ flag-words (m .active) ∙ ap (λ (x : Step). stepWords (stepOf x)) (sym e)
-
-no-number : (y : Bool) → 0 ≡ numberIn (yesOrNo y)
-no-number true = refl
-no-number false = refl
+pub made-at :
+    (a : Step) (m : Stepped) (n : ℕ) (t : Moment) → n ≡ flagWord (m .active) → a ≡ Made m → m .falls ≡ At t → (n ∷ 1 ∷ t .0 ∷ []) ≡ stepWords (stepOf a)
+made-at a m n t f e q =
+    ap (λ (x : ℕ). x ∷ 1 ∷ t .0 ∷ []) f ∙ ap (λ (x : Falls). stepWords (step-made (m .active) (fallsOf x))) (sym q) ∙ ap (λ (x : Step). stepWords (stepOf x)) (sym e)
 
 pub made-number : (a : Step) (m : Stepped) → a ≡ Made m → 0 ≡ numberIn (stepOf a)
-made-number a m e = no-number (m .active) ∙ ap (λ (x : Step). numberIn (stepOf x)) (sym e)
+made-number a m e = ap (λ (x : Step). numberIn (stepOf x)) (sym e)
 
 -- ---- writing: i words are written
 

@@ -3,11 +3,12 @@ use Prim.Native.Nat.{ℕ}
 use mathlib.Core.Path.{_≡_}
 use mathlib.Core.Bool.{Bool}
 use mathlib.Core.List.{List, [], _∷_}
+use mathlib.Core.Option.{Option, none, some}
 use lib.Dec.{eqb}
 use lib.ListN.{length}
 use Rattle.rules.specs.Basics.{if_then_else_, Side, client, server, rank}
 use Rattle.rules.specs.State.{Event}
-use Rattle.rules.specs.Choice.{Answer, done, event, nothing-left, yes-step, no-step, refused}
+use Rattle.rules.specs.Choice.{Answer, done, event, nothing-left, step-made, refused}
 use Rattle.rules.specs.Arguments.{Call}
 use Rattle.simulator.specs.Outcome.{Outcome}
 use Rattle.calls.specs.Told.{numberIn}
@@ -30,23 +31,26 @@ eventWords e =
 abbrev pub noEvent : List ℕ
 noEvent = 0 ∷ 0 ∷ 0 ∷ 0 ∷ 0 ∷ 0 ∷ 0 ∷ 0 ∷ []
 
--- the answer of a choice, ten words: 1 where an event was chosen, the rounds, the event. The last three are no answer of a choice.
+-- the answer of a choice, ten words: 1 where an event was chosen, the rounds, the event. The last two are no answer of a choice.
 abbrev pub choiceWords : Answer → List ℕ
 choiceWords (event e k) = 1 ∷ k ∷ eventWords e
 choiceWords (nothing-left k) = 0 ∷ k ∷ noEvent
 choiceWords (refused n k) = 0 ∷ k ∷ noEvent
 choiceWords done = 0 ∷ 0 ∷ noEvent
-choiceWords yes-step = 0 ∷ 0 ∷ noEvent
-choiceWords no-step = 0 ∷ 0 ∷ noEvent
+choiceWords (step-made a f) = 0 ∷ 0 ∷ noEvent
 
--- the answer of a step, one word: 1 for yes, 0 for no and for a refusal. The last three are no answer of a step.
+-- when the packet count falls, two words: 1 and the moment, or two zeros where there is none
+abbrev pub fallsWords : Option ℕ → List ℕ
+fallsWords none = 0 ∷ 0 ∷ []
+fallsWords (some m) = 1 ∷ m ∷ []
+
+-- the answer of a step, three words: 1 for yes, 0 for no, then when the packet count falls; three zeros for a refusal. The last three are no answer of a step.
 abbrev pub stepWords : Answer → List ℕ
-stepWords yes-step = 1 ∷ []
-stepWords no-step = 0 ∷ []
-stepWords (refused n k) = 0 ∷ []
-stepWords done = 0 ∷ []
-stepWords (event e k) = 0 ∷ []
-stepWords (nothing-left k) = 0 ∷ []
+stepWords (step-made a f) = flagWord a ∷ fallsWords f
+stepWords (refused n k) = 0 ∷ 0 ∷ 0 ∷ []
+stepWords done = 0 ∷ 0 ∷ 0 ∷ []
+stepWords (event e k) = 0 ∷ 0 ∷ 0 ∷ []
+stepWords (nothing-left k) = 0 ∷ 0 ∷ 0 ∷ []
 
 -- a place of the words' own length holds them; one of another length is as it was
 abbrev pub outLeft : List ℕ → List ℕ → List ℕ

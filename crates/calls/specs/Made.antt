@@ -1,4 +1,4 @@
--- What one call of a row promises: the call, and its answer as twelve words. Assumes nothing.
+-- What one call of a row promises: the call, and its answer as sixteen words. Assumes nothing.
 use Prim.Native.Nat.{ℕ, _/_}
 use mathlib.Core.Path.{_≡_}
 use mathlib.Core.Bool.{Bool, false, _||_}

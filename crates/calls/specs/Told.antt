@@ -5,7 +5,7 @@ use mathlib.Core.Bool.{Bool, not}
 use mathlib.Core.List.{List}
 use lib.Dec.{eqb}
 use Rattle.rules.specs.Basics.{if_then_else_, Side, client, server}
-use Rattle.rules.specs.Choice.{Answer, done, event, nothing-left, yes-step, no-step, refused}
+use Rattle.rules.specs.Choice.{Answer, done, event, nothing-left, step-made, refused}
 use Rattle.rules.specs.Arguments.{Call, EventIn, ActionIn}
 use Rattle.rules.specs.ChoiceRound.{Slot}
 use Rattle.simulator.specs.Outcome.{Outcome}
@@ -33,8 +33,7 @@ abbrev pub numberIn : Answer → ℕ
 numberIn done = 0
 numberIn (event e k) = 0
 numberIn (nothing-left k) = 0
-numberIn yes-step = 0
-numberIn no-step = 0
+numberIn (step-made a f) = 0
 numberIn (refused n k) = n
 
 -- the call c on the words w: it keeps the promise of every call, and n is the number of its answer

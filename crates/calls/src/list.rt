@@ -28,7 +28,7 @@ fn make_row(
     at: usize,
     bad: u64,
     last: u64,
-) -> [u64; 12]
+) -> [u64; 16]
     requires { ⌜ Lent (now block) bad ⌝ ∗ ⌜ 12 * at + 12 ≤ length (now rows) ⌝ ∗ ⌜ codeAt (now rows) at < 8 ⌝ }
     ensures { λ w. ⌜ RowMade (now (block .entry)) (now (rows .entry)) at last w (now (block .exit)) ⌝ }
 {
@@ -44,17 +44,17 @@ fn make_row(
 }
 
 // The answer of row `at` is written.
-fn store(out: &mut [u64], at: usize, words: [u64; 12])
-    requires { ⌜ 12 * at + 12 ≤ length (now out) ⌝ }
-    ensures { λ _. ⌜ now (out .exit) ≡ take (12 * at) (now (out .entry)) ++ (words ++ drop (12 * at + 12) (now (out .entry))) ⌝ }
+fn store(out: &mut [u64], at: usize, words: [u64; 16])
+    requires { ⌜ 16 * at + 16 ≤ length (now out) ⌝ }
+    ensures { λ _. ⌜ now (out .exit) ≡ take (16 * at) (now (out .entry)) ++ (words ++ drop (16 * at + 16) (now (out .entry))) ⌝ }
 {
-    let i = 12 * at;
-    let j = i + 12;
+    let i = 16 * at;
+    let j = i + 16;
     crate::written::write(&mut out[i..j], &words);
 }
 
 // Whether the list ends after row `at`, whose answer is given.
-fn ends(rows: &[u64], at: usize, words: [u64; 12]) -> bool
+fn ends(rows: &[u64], at: usize, words: [u64; 16]) -> bool
     requires { ⌜ 12 * at + 12 ≤ length (now rows) ⌝ }
     ensures { λ b. ⌜ b ≡ endsRow (now (rows .entry)) at words ⌝ }
 {
@@ -65,7 +65,7 @@ fn ends(rows: &[u64], at: usize, words: [u64; 12]) -> bool
 }
 
 // The moment of the last event chosen, after row `at`.
-fn last_after(rows: &[u64], at: usize, words: [u64; 12], last: u64) -> u64
+fn last_after(rows: &[u64], at: usize, words: [u64; 16], last: u64) -> u64
     requires { ⌜ 12 * at + 12 ≤ length (now rows) ⌝ }
     ensures { λ r. ⌜ r ≡ lastRow (now (rows .entry)) at words last ⌝ }
 {
@@ -90,7 +90,7 @@ fn make_rows(
     requires { ⌜ Lent (now block) bad ⌝ }
     ensures { λ m. ⌜ Listed (now (block .entry)) (now (rows .entry)) (now (out .entry)) m (now (block .exit)) (now (out .exit)) ⌝ }
 {
-    let most = least(rows.len() / 12, out.len() / 12);
+    let most = least(rows.len() / 12, out.len() / 16);
     let mut last = 0;
     let mut at = 0usize;
     while at < most {

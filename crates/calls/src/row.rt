@@ -1,4 +1,4 @@
-// One row of a list: a call on words that are known to be accepted, and its answer in twelve words.
+// One row of a list: a call on words that are known to be accepted, and its answer in sixteen words.
 ghost use mathlib.Core.Path.{_≡_};
 ghost use Prim.Native.Nat.{_+_, _*_, _<_, _≤_};
 ghost use mathlib.Core.List.{_∷_, _++_};
@@ -42,15 +42,15 @@ pub fn word(rows: &[u64], at: usize, j: usize) -> u64
 }
 
 // An answer that is a number alone.
-pub fn number_words(n: u64) -> [u64; 12]
-    ensures { λ w. ⌜ w ≡ n ∷ zeros 11 ⌝ }
+pub fn number_words(n: u64) -> [u64; 16]
+    ensures { λ w. ⌜ w ≡ n ∷ zeros 15 ⌝ }
 {
-    [n, 0, 0, 0, 0, 0, 0, 0, 0, 0, 0, 0]
+    [n, 0, 0, 0, 0, 0, 0, 0, 0, 0, 0, 0, 0, 0, 0, 0]
 }
 
 // The answer of a choice.
-pub fn choice_row(a: Choice) -> [u64; 12]
-    ensures { λ w. ⌜ w ≡ numberIn (choiceOf a) ∷ choiceWords (choiceOf a) ++ zeros 1 ⌝ }
+pub fn choice_row(a: Choice) -> [u64; 16]
+    ensures { λ w. ⌜ w ≡ numberIn (choiceOf a) ∷ choiceWords (choiceOf a) ++ zeros 5 ⌝ }
 {
     let n = written::choice_number(a);
     let w = written::choice_words(a);
@@ -67,19 +67,23 @@ pub fn choice_row(a: Choice) -> [u64; 12]
         w[8],
         w[9],
         0,
+        0,
+        0,
+        0,
+        0,
     ]
 }
 
 // The answer of a network step.
-fn step_row(a: Step) -> [u64; 12]
-    ensures { λ w. ⌜ w ≡ numberIn (stepOf a) ∷ stepWords (stepOf a) ++ zeros 10 ⌝ }
+fn step_row(a: Step) -> [u64; 16]
+    ensures { λ w. ⌜ w ≡ numberIn (stepOf a) ∷ stepWords (stepOf a) ++ zeros 12 ⌝ }
 {
     let n = written::step_number(a);
     let w = written::step_words(a);
-    [n, w[0], 0, 0, 0, 0, 0, 0, 0, 0, 0, 0]
+    [n, w[0], w[1], w[2], 0, 0, 0, 0, 0, 0, 0, 0, 0, 0, 0, 0]
 }
 
-fn push_sim(block: &mut [u64], hints: &mut [u64; 12], rows: &[u64], at: usize) -> [u64; 12]
+fn push_sim(block: &mut [u64], hints: &mut [u64; 12], rows: &[u64], at: usize) -> [u64; 16]
     requires { ⌜ Accepted (now block) ⌝ ∗ ⌜ 12 * at + 12 ≤ length (now rows) ⌝ }
     ensures { λ w. ⌜ CallMade (now (block .entry)) (push (eventFor (wordAt (now (rows .entry)) at 1) (wordAt (now (rows .entry)) at 2) (wordAt (now (rows .entry)) at 3) (wordAt (now (rows .entry)) at 4) (wordAt (now (rows .entry)) at 5) (wordAt (now (rows .entry)) at 6) (wordAt (now (rows .entry)) at 7) (wordAt (now (rows .entry)) at 8))) w (now (block .exit)) ⌝ }
 {
@@ -96,7 +100,7 @@ fn push_sim(block: &mut [u64], hints: &mut [u64; 12], rows: &[u64], at: usize) -
     number_words(told::number(a))
 }
 
-fn set_action(block: &mut [u64], rows: &[u64], at: usize) -> [u64; 12]
+fn set_action(block: &mut [u64], rows: &[u64], at: usize) -> [u64; 16]
     requires { ⌜ Accepted (now block) ⌝ ∗ ⌜ 12 * at + 12 ≤ length (now rows) ⌝ }
     ensures { λ w. ⌜ CallMade (now (block .entry)) (set-action (slotFor (wordAt (now (rows .entry)) at 1) (wordAt (now (rows .entry)) at 2)) (actionFor (wordAt (now (rows .entry)) at 3) (wordAt (now (rows .entry)) at 4) (wordAt (now (rows .entry)) at 5) (wordAt (now (rows .entry)) at 6) (wordAt (now (rows .entry)) at 7))) w (now (block .exit)) ⌝ }
 {
@@ -112,7 +116,7 @@ fn set_action(block: &mut [u64], rows: &[u64], at: usize) -> [u64; 12]
     number_words(told::number(a))
 }
 
-fn clear_action(block: &mut [u64], rows: &[u64], at: usize) -> [u64; 12]
+fn clear_action(block: &mut [u64], rows: &[u64], at: usize) -> [u64; 16]
     requires { ⌜ Accepted (now block) ⌝ ∗ ⌜ 12 * at + 12 ≤ length (now rows) ⌝ }
     ensures { λ w. ⌜ CallMade (now (block .entry)) (clear-action (slotFor (wordAt (now (rows .entry)) at 1) (wordAt (now (rows .entry)) at 2))) w (now (block .exit)) ⌝ }
 {
@@ -122,7 +126,7 @@ fn clear_action(block: &mut [u64], rows: &[u64], at: usize) -> [u64; 12]
     number_words(told::number(a))
 }
 
-fn set_timer(block: &mut [u64], rows: &[u64], at: usize) -> [u64; 12]
+fn set_timer(block: &mut [u64], rows: &[u64], at: usize) -> [u64; 16]
     requires { ⌜ Accepted (now block) ⌝ ∗ ⌜ 12 * at + 12 ≤ length (now rows) ⌝ }
     ensures { λ w. ⌜ CallMade (now (block .entry)) (set-timer (slotFor (wordAt (now (rows .entry)) at 1) (wordAt (now (rows .entry)) at 2)) (wordAt (now (rows .entry)) at 3)) w (now (block .exit)) ⌝ }
 {
@@ -133,7 +137,7 @@ fn set_timer(block: &mut [u64], rows: &[u64], at: usize) -> [u64; 12]
     number_words(told::number(a))
 }
 
-fn clear_timer(block: &mut [u64], rows: &[u64], at: usize) -> [u64; 12]
+fn clear_timer(block: &mut [u64], rows: &[u64], at: usize) -> [u64; 16]
     requires { ⌜ Accepted (now block) ⌝ ∗ ⌜ 12 * at + 12 ≤ length (now rows) ⌝ }
     ensures { λ w. ⌜ CallMade (now (block .entry)) (clear-timer (slotFor (wordAt (now (rows .entry)) at 1) (wordAt (now (rows .entry)) at 2))) w (now (block .exit)) ⌝ }
 {
@@ -143,7 +147,7 @@ fn clear_timer(block: &mut [u64], rows: &[u64], at: usize) -> [u64; 12]
     number_words(told::number(a))
 }
 
-fn pick_next(block: &mut [u64], hints: &mut [u64; 12], rows: &[u64], at: usize) -> [u64; 12]
+fn pick_next(block: &mut [u64], hints: &mut [u64; 12], rows: &[u64], at: usize) -> [u64; 16]
     requires { ⌜ Accepted (now block) ⌝ ∗ ⌜ 12 * at + 12 ≤ length (now rows) ⌝ }
     ensures { λ w. ⌜ CallMade (now (block .entry)) (pick-next (wordAt (now (rows .entry)) at 1)) w (now (block .exit)) ⌝ }
 {
@@ -152,7 +156,7 @@ fn pick_next(block: &mut [u64], hints: &mut [u64; 12], rows: &[u64], at: usize) 
     choice_row(a)
 }
 
-fn sim_network_stack(block: &mut [u64], hints: &mut [u64; 12], rows: &[u64], at: usize) -> [u64; 12]
+fn sim_network_stack(block: &mut [u64], hints: &mut [u64; 12], rows: &[u64], at: usize) -> [u64; 16]
     requires { ⌜ Accepted (now block) ⌝ ∗ ⌜ 12 * at + 12 ≤ length (now rows) ⌝ }
     ensures { λ w. ⌜ CallMade (now (block .entry)) (sim-network-stack (wordAt (now (rows .entry)) at 1) (eventFor (wordAt (now (rows .entry)) at 2) (wordAt (now (rows .entry)) at 3) (wordAt (now (rows .entry)) at 4) (wordAt (now (rows .entry)) at 5) (wordAt (now (rows .entry)) at 6) (wordAt (now (rows .entry)) at 7) (wordAt (now (rows .entry)) at 8) (wordAt (now (rows .entry)) at 9))) w (now (block .exit)) ⌝ }
 {
@@ -171,7 +175,7 @@ fn sim_network_stack(block: &mut [u64], hints: &mut [u64; 12], rows: &[u64], at:
 }
 
 // Setting and clearing: codes 1 to 4.
-fn slot_call(block: &mut [u64], rows: &[u64], at: usize, code: u64) -> [u64; 12]
+fn slot_call(block: &mut [u64], rows: &[u64], at: usize, code: u64) -> [u64; 16]
     requires { ⌜ Accepted (now block) ⌝ ∗ ⌜ 12 * at + 12 ≤ length (now rows) ⌝ ∗ ⌜ 0 < code ⌝ ∗ ⌜ code < 5 ⌝ }
     ensures { λ w. ⌜ CallMade (now (block .entry)) (callFor code (wordAt (now (rows .entry)) at)) w (now (block .exit)) ⌝ }
 {
@@ -194,7 +198,7 @@ pub fn call(
     rows: &[u64],
     at: usize,
     code: u64,
-) -> [u64; 12]
+) -> [u64; 16]
     requires { ⌜ Accepted (now block) ⌝ ∗ ⌜ 12 * at + 12 ≤ length (now rows) ⌝ ∗ ⌜ code < 7 ⌝ }
     ensures { λ w. ⌜ CallMade (now (block .entry)) (callFor code (wordAt (now (rows .entry)) at)) w (now (block .exit)) ⌝ }
 {

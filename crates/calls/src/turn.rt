@@ -26,7 +26,7 @@ const SIDE: usize = 6;
 const SERVER: u64 = 65_536;
 
 // The answer of a turn with a step.
-fn turn_row(a: Choice, b: Step) -> [u64; 12]
+fn turn_row(a: Choice, b: Step) -> [u64; 16]
     ensures { λ w. ⌜ w ≡ turnWords (choiceOf a) (stepOf b) ⌝ }
 {
     let n = written::step_number(b);
@@ -45,11 +45,15 @@ fn turn_row(a: Choice, b: Step) -> [u64; 12]
         w[8],
         w[9],
         s[0],
+        s[1],
+        s[2],
+        0,
+        0,
     ]
 }
 
 // A choice at the time, then its event's step, at the event's own moment.
-pub fn turn(block: &mut [u64], hints: &mut [u64; 12], time: Moment) -> [u64; 12]
+pub fn turn(block: &mut [u64], hints: &mut [u64; 12], time: Moment) -> [u64; 16]
     requires { ⌜ Accepted (now block) ⌝ }
     ensures { λ w. ⌜ TurnMade (now (block .entry)) (time .0) w (now (block .exit)) ⌝ }
 {
@@ -80,7 +84,7 @@ fn bit(n: u64, k: u64) -> bool
 }
 
 // Whether the list ends after a turn of this answer: it is refused, gives no event, or one that is watched.
-pub fn ends(words: [u64; 12], stop: u64) -> bool
+pub fn ends(words: [u64; 16], stop: u64) -> bool
     ensures { λ b. ⌜ b ≡ endsWith words stop ⌝ }
 {
     if words[0] != 0 {
@@ -97,7 +101,7 @@ pub fn ends(words: [u64; 12], stop: u64) -> bool
 }
 
 // The moment of the last event chosen, after a choice or a turn of this answer.
-pub fn last(words: [u64; 12], before: u64) -> u64
+pub fn last(words: [u64; 16], before: u64) -> u64
     ensures { λ r. ⌜ r ≡ lastWith words before ⌝ }
 {
     if words[CHOSEN] == 0 {

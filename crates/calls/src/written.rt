@@ -7,6 +7,7 @@ ghost use Rattle.calls.specs.Answers.{flagWord, choiceWords, stepWords, 
 use event::Kind;
 use event::SimEvent;
 use event::answer::Choice;
+use event::answer::Falls;
 use event::answer::Step;
 
 fn flag_word(b: bool) -> u64
@@ -51,14 +52,19 @@ pub fn choice_words(a: Choice) -> [u64; 10]
     }
 }
 
-// The one word of a network step.
-pub fn step_words(a: Step) -> [u64; 1]
+// The three words of a network step.
+pub fn step_words(a: Step) -> [u64; 3]
     ensures { λ w. ⌜ w ≡ stepWords (stepOf a) ⌝ }
 {
     let Step::Made(m) = a else {
-        return [0];
+        return [0, 0, 0];
     };
-    [flag_word(m.active)]
+    let active = flag_word(m.active);
+    let falls = m.falls;
+    match falls {
+        Falls::Never => [active, 0, 0],
+        Falls::At(t) => [active, 1, t.0],
+    }
 }
 
 pub fn choice_number(a: Choice) -> u64

@@ -8,15 +8,17 @@ use lib.Dec.{ltb}
 use borrow.Author.Tests.{ltb-true, ltb-false}
 use Rattle.rules.specs.Basics.{rank}
 use Rattle.rules.specs.State.{Event}
-use Rattle.rules.specs.Choice.{Answer as RulesAnswer, done, event, nothing-left, refused}
+use Rattle.rules.specs.Choice.{Answer as RulesAnswer, done, event, nothing-left, refused, step-made}
 use Rattle.event.specs.HandedIn.{sideOf}
 use Rattle.event.specs.Values.{knownEvent, eventValue, kindAt}
-use Rattle.event.specs.Answers.{answerOf, choiceOf, chosenAs, yesOrNo, stepOf}
+use Rattle.event.specs.Answers.{answerOf, choiceOf, chosenAs, fallsOf, stepOf}
 use Rattle.event.specs.declared.SimEvent.{SimEvent}
 use Rattle.event.specs.declared.answer.Answer.{Answer}
 use Rattle.event.specs.declared.answer.Answer.the-variants.{Done, Refused}
 use Rattle.event.specs.declared.answer.Choice.{Choice}
 use Rattle.event.specs.declared.answer.Chosen.{Chosen}
+use Rattle.event.specs.declared.answer.Falls.{Falls}
+use Rattle.event.specs.declared.answer.Falls.the-variants.{Never, At}
 use Rattle.event.specs.declared.answer.Refusal.{Refusal}
 use Rattle.event.specs.declared.answer.Step.{Step}
 use Rattle.event.proofs.Numbers.{by-kind, event-known, event-unknown}
@@ -82,21 +84,26 @@ answer-one (Refused r) (Refused s) e = ap Refused (refusal-one r s (cc) (cc))
 answer-one Done (Refused s) e = absurd (different (cc))
 answer-one (Refused r) Done e = absurd (different (cc))
 
-yes-one : (a b : Bool) → yesOrNo a ≡ yesOrNo b → a ≡ b
-yes-one true true e = refl
-yes-one false false e = refl
-yes-one true false e = absurd (different (cc))
-yes-one false true e = absurd (different (cc))
+-- when the count falls, and the answer of a step that is made
+pub falls-one : (f g : Falls) → fallsOf f ≡ fallsOf g → f ≡ g
+falls-one Never Never e = refl
+falls-one (At t) (At u) e = let q : t .0 ≡ u .0 = cc in ap At (λ d. record { 0 = q d })
+falls-one Never (At u) e = absurd (different (cc))
+falls-one (At t) Never e = absurd (different (cc))
 
-no-refusal : (a : Bool) (n k : ℕ) → yesOrNo a ≡ refused n k → ⊥
-no-refusal true n k e = different (cc)
-no-refusal false n k e = different (cc)
+made-one : (a b : Bool) (f g : Option ℕ) → step-made a f ≡ step-made b g → (a ≡ b) × (f ≡ g)
+made-one a b f g e = (cc, cc)
+
+no-refusal : (a : Bool) (f : Option ℕ) (n k : ℕ) → step-made a f ≡ refused n k → ⊥
+no-refusal a f n k e = different (cc)
 
 pub step-one : (a b : Step) → stepOf a ≡ stepOf b → a ≡ b
-step-one (step.Made m) (step.Made n) e = ap step.Made (λ d. record { active = yes-one (m .active) (n .active) e d })
+step-one (step.Made m) (step.Made n) e =
+    let q = made-one (m .active) (n .active) (fallsOf (m .falls)) (fallsOf (n .falls)) e in
+    ap step.Made (λ d. record { active = q .0 d; falls = falls-one (m .falls) (n .falls) (q .1) d })
 step-one (step.Refused r) (step.Refused s) e = ap step.Refused (refusal-one r s (cc) (cc))
-step-one (step.Made m) (step.Refused s) e = absurd (no-refusal (m .active) _ _ e)
-step-one (step.Refused r) (step.Made n) e = absurd (no-refusal (n .active) _ _ (sym e))
+step-one (step.Made m) (step.Refused s) e = absurd (no-refusal _ _ _ _ e)
+step-one (step.Refused r) (step.Made n) e = absurd (no-refusal _ _ _ _ (sym e))
 
 -- a choice's, where it is an answer of a choice at all
 chosen-one :

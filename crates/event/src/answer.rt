@@ -1,5 +1,6 @@
 // What the calls answer.
 use crate::SimEvent;
+use moment::Moment;
 
 // The number of a refusal, and the rounds finished before it.
 pub struct Refusal {
@@ -30,9 +31,16 @@ pub enum Choice {
     Refused(Refusal),
 }
 
-// A network step: whether there is network activity.
+// When the packet count falls: the first moment at which the oldest stamp is too old, where there is one within the limit.
+pub enum Falls {
+    Never,
+    At(Moment),
+}
+
+// A network step: whether there is network activity, and when the packet count falls.
 pub struct Stepped {
     pub active: bool,
+    pub falls: Falls,
 }
 
 pub enum Step {

@@ -9,11 +9,11 @@ use borrow.Author.Tests.{ltb-false}
 use Rattle.rules.specs.Basics.{Side, kindOf, if_then_else_}
 use Rattle.rules.specs.State.{SideState, State, side, withSide, held, used, reserved}
 use Rattle.rules.specs.ChoiceRound.{fits, clearTimer, noTimer, clearAction, noAction}
-use Rattle.rules.specs.Choice.{Answer, Called}
+use Rattle.rules.specs.Choice.{Called}
 use Rattle.rules.specs.Arguments.{Call, push, set-action, clear-action, set-timer, clear-timer, pick-next, sim-network-stack, actionKindOf}
 use Rattle.rules.specs.Effects.{afterPush, afterSetAction, afterStep, setTimer}
 use Rattle.rules.specs.Refusals.{table, refusal, firstOf, full}
-use Rattle.rules.specs.Calls.{work, unlessRefused, call, leaves}
+use Rattle.rules.specs.Calls.{work, unlessRefused, call}
 use Rattle.rules.specs.CallLists.{allowanceOf, carried, isRefused}
 use Rattle.laws.specs.Branches.{by-if}
 use Rattle.laws.specs.Counts.{used-with, reserved-with}
@@ -85,11 +85,7 @@ work-runs s (sim-network-stack now r) h =
     by-if
     (λ (d : Called). CallRan s (sim-network-stack now r) d)
     (fits (afterStep s now r (kindOf (r .kind)) .sums))
-    (by-if
-    (λ (a : Answer). CallRan s (sim-network-stack now r) (leaves (afterStep s now r (kindOf (r .kind)) .state) a))
-    (afterStep s now r (kindOf (r .kind)) .answer)
     went
-    went)
     (ended-makes s)
   where
     went : Ran s (afterStep s now r (kindOf (r .kind)) .state) 0 0 2

@@ -10,7 +10,7 @@ use lib.Dec.{eqb, ltb}
 use Rattle.rules.specs.Basics.{kindOf, if_then_else_}
 use Rattle.rules.specs.State.{State, side, roundsLeft, withEnded}
 use Rattle.rules.specs.ChoiceRound.{Candidate, anAggregate, aBlock, anEvent, aTimer, anAction, none-left, RoundOutcome, next, taken, nothing, passed, act, candidate, closed, fits, roundSums, round, noTimer, noAction, clearTimer, clearAction}
-use Rattle.rules.specs.Choice.{Answer, done, event, nothing-left, yes-step, no-step, refused, Called, rounds, settle, choose}
+use Rattle.rules.specs.Choice.{Answer, done, event, nothing-left, step-made, refused, Called, rounds, settle, choose}
 use Rattle.rules.specs.Arguments.{Call, push, set-action, clear-action, set-timer, clear-timer, pick-next, sim-network-stack, actionKindOf, EventIn}
 use Rattle.rules.specs.Effects.{afterStep}
 use Rattle.rules.specs.Refusals.{firstOf, table, refusal}
@@ -64,16 +64,14 @@ ChoiceMarks s (refused n k) t = (n ≡ 10) × (t .ended ≡ true)
 ChoiceMarks s (event e k) t = t .ended ≡ s .ended
 ChoiceMarks s (nothing-left k) t = t .ended ≡ s .ended
 ChoiceMarks s done t = t .ended ≡ s .ended
-ChoiceMarks s yes-step t = t .ended ≡ s .ended
-ChoiceMarks s no-step t = t .ended ≡ s .ended
+ChoiceMarks s (step-made a f) t = t .ended ≡ s .ended
 
 onward : (s t : State) (a : Answer) (u : State) → t .ended ≡ s .ended → ChoiceMarks t a u → ChoiceMarks s a u
 onward s t (refused n k) u h m = m
 onward s t (event e k) u h m = m ∙ h
 onward s t (nothing-left k) u h m = m ∙ h
 onward s t done u h m = m ∙ h
-onward s t yes-step u h m = m ∙ h
-onward s t no-step u h m = m ∙ h
+onward s t (step-made a f) u h m = m ∙ h
 
 rounds-mark : (f now k : ℕ) (s : State) → ChoiceMarks s (rounds f now k s .answer) (rounds f now k s .state)
 unfolding rounds
@@ -101,16 +99,14 @@ Marks s (refused n k) t = ((n ≡ 10) × (t .ended ≡ true)) ⊎ ((n < 10) × (
 Marks s (event e k) t = t .ended ≡ s .ended
 Marks s (nothing-left k) t = t .ended ≡ s .ended
 Marks s done t = t .ended ≡ s .ended
-Marks s yes-step t = t .ended ≡ s .ended
-Marks s no-step t = t .ended ≡ s .ended
+Marks s (step-made a f) t = t .ended ≡ s .ended
 
 choice-marks : (s : State) (a : Answer) (t : State) → ChoiceMarks s a t → Marks s a t
 choice-marks s (refused n k) t h = inl h
 choice-marks s (event e k) t h = h
 choice-marks s (nothing-left k) t h = h
 choice-marks s done t h = h
-choice-marks s yes-step t h = h
-choice-marks s no-step t h = h
+choice-marks s (step-made a f) t h = h
 
 work-marks : (s : State) (c : Call) → Marks s (work s c .answer) (work s c .state)
 unfolding work clearAction clearTimer
@@ -126,7 +122,7 @@ work-marks s (sim-network-stack now r) =
     by-if
     (λ (d : Called). Marks s (d .answer) (d .state))
     (fits (afterStep s now r (kindOf (r .kind)) .sums))
-    (by-if (λ (a : Answer). Marks s a t) (afterStep s now r (kindOf (r .kind)) .answer) e e)
+    e
     (inl (refl, refl))
 
 -- the table's numbers are below 10
@@ -198,11 +194,7 @@ step-ten s now r k =
     by-if
     (λ (d : Called). d .answer ≡ refused 10 k → (k ≡ 0) × (d .state ≡ withEnded s true))
     (fits (afterStep s now r (kindOf (r .kind)) .sums))
-    (by-if
-    (λ (a : Answer). a ≡ refused 10 k → (k ≡ 0) × (afterStep s now r (kindOf (r .kind)) .state ≡ withEnded s true))
-    (afterStep s now r (kindOf (r .kind)) .answer)
     (λ e. absurd (true≢false (sym (ap isRefused e))))
-    (λ e. absurd (true≢false (sym (ap isRefused e)))))
     (λ e. let z : 0 ≡ k = cc in (omega arith, refl))
 
 -- 3: "marked ended", whatever the call

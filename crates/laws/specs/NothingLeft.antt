@@ -6,7 +6,7 @@ use mathlib.Core.Option.{Option, none, some}
 use native.Mathlib.Omega.{arith}
 use Rattle.rules.specs.State.{State, roundsLeft}
 use Rattle.rules.specs.ChoiceRound.{RoundOutcome, next, taken, nothing, passed, round}
-use Rattle.rules.specs.Choice.{Answer, done, event, nothing-left, yes-step, no-step, refused, rounds, settle, choose}
+use Rattle.rules.specs.Choice.{Answer, done, event, nothing-left, step-made, refused, rounds, settle, choose}
 use Rattle.rules.specs.Arguments.{pick-next}
 use Rattle.rules.specs.Refusals.{refusal}
 use Rattle.rules.specs.Calls.{work, unlessRefused, call}
@@ -22,16 +22,14 @@ abbrev pub Says : State → ℕ → Answer → Type 0
 Says s now (nothing-left k) = Quiet s now
 Says s now (event e k) = Quiet s now → ⊥
 Says s now done = ⊥
-Says s now yes-step = ⊥
-Says s now no-step = ⊥
+Says s now (step-made a f) = ⊥
 Says s now (refused n k) = Unit
 
 carry : (s t : State) (now : ℕ) (a : Answer) → Sees s now (next t) → Says t now a → Says s now a
 carry s t now (nothing-left k) h q = h .0 q
 carry s t now (event e k) h q = λ p. q (h .1 p)
 carry s t now done h q = q
-carry s t now yes-step h q = q
-carry s t now no-step h q = q
+carry s t now (step-made a f) h q = q
 carry s t now (refused n k) h q = tt
 
 rounds-say : (f now k : ℕ) (s : State) → roundsLeft s < f → Says s now (rounds f now k s .answer)
@@ -59,8 +57,7 @@ says-exactly : (s : State) (now : ℕ) (a : Answer) → Says s now a → isRefus
 says-exactly s now (nothing-left k) q n = sym (quiet-test s now q)
 says-exactly s now (event e k) q n = sym (never-true (nothingToTake s now) (λ h. q (test-quiet s now h)))
 says-exactly s now done q n = absurd q
-says-exactly s now yes-step q n = absurd q
-says-exactly s now no-step q n = absurd q
+says-exactly s now (step-made a f) q n = absurd q
 says-exactly s now (refused m k) q n = absurd (true≢false n)
 
 -- a choice that is not refused answers "nothing left" exactly when there is nothing to take

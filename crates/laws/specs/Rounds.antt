@@ -7,7 +7,7 @@ use mathlib.Core.Option.{Option, none, some}
 use native.Mathlib.Omega.{arith}
 use lib.ListN.{length, getD}
 use borrow.Author.Tests.{le-leb}
-use Rattle.rules.specs.Choice.{Answer, Called, done, event, nothing-left, yes-step, no-step, refused, rounds, settle, choose}
+use Rattle.rules.specs.Choice.{Answer, Called, done, event, nothing-left, step-made, refused, rounds, settle, choose}
 use Rattle.rules.specs.Arguments.{Call, clear-action, clear-timer, pick-next, push, set-action, set-timer, sim-network-stack}
 use Rattle.rules.specs.ChoiceRound.{RoundOutcome, fits, next, nothing, passed, round, taken}
 use Rattle.rules.specs.State.{State, reserved, roundsLeft, used, withEnded}
@@ -40,16 +40,14 @@ LeavesLast s k l (event e j) t = (j ≡ k + length l) × (t ≡ lastOf s l)
 LeavesLast s k l (nothing-left j) t = (j ≡ k + length l) × (t ≡ lastOf s l)
 LeavesLast s k l (refused n j) t = (n ≡ 10) × (j ≡ k + length l) × (t ≡ withEnded (lastOf s l) true)
 LeavesLast s k l done t = ⊥
-LeavesLast s k l yes-step t = ⊥
-LeavesLast s k l no-step t = ⊥
+LeavesLast s k l (step-made a f) t = ⊥
 
 one-more : (s t : State) (k : ℕ) (l : List State) (a : Answer) (u : State) → LeavesLast t (k + 1) l a u → LeavesLast s k (t ∷ l) a u
 one-more s t k l (event e j) u h = (omega (arith, h .0), h .1)
 one-more s t k l (nothing-left j) u h = (omega (arith, h .0), h .1)
 one-more s t k l (refused n j) u h = (h .0, omega (arith, h .1), h .2)
 one-more s t k l done u h = h
-one-more s t k l yes-step u h = h
-one-more s t k l no-step u h = h
+one-more s t k l (step-made a f) u h = h
 
 rounds-leave : (f now k : ℕ) (s : State) → LeavesLast s k (finishedStates f now s) (rounds f now k s .answer) (rounds f now k s .state)
 unfolding rounds finishedStates
@@ -98,8 +96,7 @@ last-carries s l (event e j) t h = omega (arith, h .0)
 last-carries s l (nothing-left j) t h = omega (arith, h .0)
 last-carries s l (refused n j) t h = omega (arith, h .1)
 last-carries s l done t h = absurd h
-last-carries s l yes-step t h = absurd h
-last-carries s l no-step t h = absurd h
+last-carries s l (step-made a f) t h = absurd h
 
 -- a clause for each call
 work-carries : (s : State) (c : Call) → carried (work s c .answer) ≡ workRounds s c
@@ -114,7 +111,7 @@ work-carries s (sim-network-stack now r) =
     by-if
     (λ (d : Called). carried (d .answer) ≡ 0)
     (fits (afterStep s now r (kindOf (r .kind)) .sums))
-    (by-if (λ (a : Answer). carried a ≡ 0) (afterStep s now r (kindOf (r .kind)) .answer) refl refl)
+    refl
     refl
 
 -- a call: what its answer carries is what the rules finish in it

@@ -127,7 +127,7 @@ stamps-ok : (z : Side) (x : SideState) (l : List (Held ℕ)) → SideOk z x → 
 stamps-ok z x l o h =
     record { action = o .action; reporting = o .reporting; machines = o .machines; chains = o .chains; sum = o .sum; stamps = h; timer-slots = o .timer-slots; action-slots = o .action-slots; end = o .end; timers = o .timers; actions = o .actions }
 
-stamp-sound : (s : State) (z : Side) (now : ℕ) → Sound s → now ≤ momentLimit → Sound (stamp s z now)
+pub stamp-sound : (s : State) (z : Side) (now : ℕ) → Sound s → now ≤ momentLimit → Sound (stamp s z now)
 unfolding stamp
 stamp-sound s z now h n =
     let x : SideState = side s z in

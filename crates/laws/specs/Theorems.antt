@@ -1,22 +1,24 @@
--- What is proved of the rules, each theorem in document 01's words (of packing and of the moments of aggregates by cases, document 02's), with the law
--- that proves it. The words are those of the crate rules; of this crate's own: `Accepted` (a state that calls may get), `Once` (each record from 1 to
+-- What is proved of the rules, each theorem in document 01's words (of packing, of the moments of aggregates by cases and of when the packet count falls,
+-- document 02's), with the law that proves it. The words are those of the crate rules; of this crate's own: `Accepted` (a state that calls may get), `Once` (each record from 1 to
 -- R stands once), `times` (how often a record stands), `stateAfter` (the state after a round), `recordsTaken` (the free records that a round takes),
 -- `Alike` (different in record numbers alone).
 use Prim.Native.Nat.{ℕ, _+_, _≤_, _<_, suc}
-use mathlib.Core.Path.{_≡_, _∙_}
+use mathlib.Core.Path.{_≡_, refl, _∙_}
 use mathlib.Core.Logic.{_⊎_}
-use mathlib.Core.Bool.{true, false}
+use mathlib.Core.Bool.{Bool, true, false}
 use mathlib.Core.List.{List, [], _∷_}
-use mathlib.Core.Option.{none, some}
+use mathlib.Core.Option.{Option, none, some, Option·none-ne-some}
 use native.Mathlib.Omega.{arith}
 use lib.ListN.{length, getD}
 use Rattle.rules.specs.Arguments.{Call, EventIn, pick-next, sim-network-stack}
 use Rattle.rules.specs.Opening.{Opening, openRefusal, opened}
-use Rattle.rules.specs.State.{State, reserved, roundsLeft, used, withEnded}
+use Rattle.rules.specs.State.{Held, State, reserved, roundsLeft, side, used, withEnded}
+use Rattle.rules.specs.Limits.{momentLimit}
 use Rattle.rules.specs.CallLists.{afterAll, answers, carried, finishedStates, isRefused, lacksRoom, nothingToTake, roundStates, roundsOf, saysNothing}
 use Rattle.rules.specs.Calls.{call, leaves}
 use Rattle.rules.specs.ChoiceRound.{candidate, next, round, fits, roundSums}
-use Rattle.rules.specs.Choice.{choose, refused, rounds}
+use Rattle.rules.specs.Choice.{choose, refused, rounds, step-made}
+use Rattle.rules.specs.NetworkStep.{countFalls, stampsKept}
 use Rattle.rules.specs.Contents.{Agree}
 use Rattle.rules.specs.Packing.{packed}
 use Rattle.rules.specs.Basics.{Side, client, server}
@@ -30,6 +32,7 @@ use Rattle.laws.specs.Ended.{below-ten, call-marks, step-ten, ten-ends, 
 use Rattle.laws.specs.AcceptedKept.{call-accepted}
 use Rattle.laws.specs.Rounds.{call-carries, choice-has-room, choice-ten, enough-states}
 use Rattle.laws.specs.UnplacedCalls.{call-reads-values, list-reads-values}
+use Rattle.laws.specs.CountFalls.{falls-is, falls-goes, falls-stays, falls-never, sent-tells, others-tell-none}
 use Rattle.laws.specs.Falls.{enough, room-kept, round-falls, stateAfter}
 use Rattle.laws.specs.RecordsTaken.{free-reserved, recordsTaken, round-takes-free, recordsGiven, round-takes}
 use Rattle.laws.specs.RecordNumbers.{no-other-record}
@@ -186,3 +189,37 @@ pub moment-cases-give :
     → aggregatesOf d z at (some len)
     ≡ record { moment = caseMoment a d at len; length = len; side = client } ∷ record { moment = caseMoment b d at len; length = len; side = server } ∷ []
 moment-cases-give z a b d at len = cases-give d at len z a b
+
+-- ---- when the packet count falls (document 02, M-120)
+
+-- The stamps l, the oldest by arrival first, have a count that falls at m: "that stamp plus the window plus 1". A stamp added then or later evicts it; one
+-- added earlier, so also one nanosecond before, evicts none.
+pub record FallsAt (window m : ℕ) (l : List (Held ℕ)) : Type 0 where
+  pub oldest : Held ℕ
+  pub others : List (Held ℕ)
+  pub stamps : l ≡ oldest ∷ others
+  pub moment : m ≡ oldest .value + window + 1
+  pub evicted : (t : ℕ) → m ≤ t → stampsKept window t l ≡ stampsKept window t others
+  pub kept : (t : ℕ) → t < m → stampsKept window t l ≡ l
+
+-- The moment told is "the first moment at which its oldest kept stamp by arrival would be too old".
+pub falls-when-too-old : (window m : ℕ) (l : List (Held ℕ)) → countFalls window l ≡ some m → FallsAt window m l
+falls-when-too-old window m [] e = absurd (Option·none-ne-some m e)
+falls-when-too-old window m (h ∷ l) e =
+    record { oldest = h; others = l; stamps = refl; moment = falls-is window m h l e; evicted = falls-goes window m h l e; kept = falls-stays window m h l e }
+
+-- "A moment past the limit is reported as absent": where none is told, no moment that a call may have evicts a stamp.
+pub absent-past-the-limit : (window t : ℕ) (l : List (Held ℕ)) → countFalls window l ≡ none → t ≤ momentLimit → stampsKept window t l ≡ l
+absent-past-the-limit window t [] e q = refl
+absent-past-the-limit window t (h ∷ l) e q = falls-never window t h l e q
+
+-- "The network step hands this on for `TunnelSent`": a step that is not refused tells it of the stamps that its side then has.
+pub tunnel-sent-tells :
+    (s : State) (now : ℕ) (r : EventIn) (a : Bool) (f : Option ℕ) → call s (sim-network-stack now r) .answer ≡ step-made a f → r .kind ≡ 0
+    → f ≡ countFalls (s .settings .window) (side (call s (sim-network-stack now r) .state) (r .side) .stamps)
+tunnel-sent-tells s now r a f e = sent-tells s now r a f e
+
+-- "for other kinds it says that there is no such moment"
+pub only-tunnel-sent-tells :
+    (s : State) (now : ℕ) (r : EventIn) (a : Bool) (f : Option ℕ) → call s (sim-network-stack now r) .answer ≡ step-made a f → (r .kind ≡ 0 → ⊥) → f ≡ none
+only-tunnel-sent-tells s now r a f e = others-tell-none s now r a f e

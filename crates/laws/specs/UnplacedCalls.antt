@@ -5,11 +5,11 @@ use mathlib.Core.Bool.{Bool, true, false, not, _&&_, _||_}
 use mathlib.Core.List.{List, [], _∷_}
 use mathlib.Core.Option.{Option, none, some}
 use lib.Dec.{leb, ltb, eqb}
-use Rattle.rules.specs.Basics.{if_then_else_, Side, client, server, Kind, kindOf, hasMachineNo, isSome}
+use Rattle.rules.specs.Basics.{Side, client, server, Kind, kindOf, hasMachineNo, isSome}
 use Rattle.rules.specs.State.{ActionKind, SideState, State, withEnded}
 use Rattle.rules.specs.Limits.{momentLimit}
 use Rattle.rules.specs.ChoiceRound.{Slot, clearTimer, clearAction, fits}
-use Rattle.rules.specs.Choice.{Answer, Called, done, yes-step, no-step, refused}
+use Rattle.rules.specs.Choice.{Answer, Called, done, refused, step-made}
 use Rattle.rules.specs.NetworkStep.{Stepped}
 use Rattle.rules.specs.Arguments.{Call, EventIn, ActionIn, push, set-action, clear-action, set-timer, clear-timer, pick-next, sim-network-stack, eventOf, actionKindOf}
 use Rattle.rules.specs.Effects.{afterPush, setTimer, afterSetAction, afterStep}
@@ -116,7 +116,7 @@ stepped-unplaced s r =
     if-alike
     unplacedCalled
     (fits (r .sums))
-    (answered (if r .answer then yes-step else no-step) (sym (unplaced-state-twice (r .state))))
+    (answered (step-made (r .answer) (r .falls)) (sym (unplaced-state-twice (r .state))))
     (answered (refused 10 0) (sym (unplaced-state-twice (withEnded s true))))
 
 work-unplaced : (s : State) (c : Call) → unplacedCalled (work s c) ≡ unplacedCalled (work (unplacedState s) c)

@@ -12,7 +12,7 @@ use Rattle.rules.specs.ChoiceHeads.{Head, waitingHead}
 use Rattle.rules.specs.Queueing.{putEvent, pushEvent}
 use Rattle.rules.specs.Aggregates.{onReplace, onDelayed, testSums, aggregatesOf, addAggregates}
 use Rattle.rules.specs.ChoiceRound.{liftEvent}
-use Rattle.rules.specs.NetworkStep.{Stepped, packet, queueing, unmoved, asPadding, letPass, replaceBy, replacing, stepPadding, stampsKept, stamped, stamp, rateOf, extraOver, reported, stepTunnel, stepFor}
+use Rattle.rules.specs.NetworkStep.{Stepped, packet, queueing, unmoved, asPadding, letPass, replaceBy, replacing, stepPadding, stampsKept, stamped, stamp, countFalls, rateOf, extraOver, reported, stepTunnel, stepFor}
 use Rattle.laws.specs.Unplaced.{unplacedList, unplacedSide, unplacedState, Alike, unplaced-length, unplaced-twice, unplaced-append, side-unplaced, unplaced-state-twice, settled, put-unplaced, push-unplaced, add-unplaced}
 use Rattle.laws.specs.Branches.{if-both, if-alike}
 use Rattle.laws.specs.UnplacedHeads.{unplacedHead, unplacedFound, waiting-head-unplaced}
@@ -20,18 +20,18 @@ use Rattle.laws.specs.UnplacedRound.{on-replace-unplaced, on-delayed-unp
 
 -- of what a step gives
 abbrev pub unplacedStepped : Stepped → Stepped
-unplacedStepped r = record { answer = r .answer; state = unplacedState (r .state); sums = r .sums }
+unplacedStepped r = record { answer = r .answer; falls = r .falls; state = unplacedState (r .state); sums = r .sums }
 
 -- a new event
 pub push-alike : (s : State) (e : Event) → Alike (pushEvent s e) (pushEvent (unplacedState s) e)
 push-alike s e = settled (pushEvent s e) (pushEvent (unplacedState s) e) (push-unplaced s e)
 
 queueing-unplaced : (s : State) (a : Bool) (e : Event) → unplacedStepped (queueing s a e) ≡ unplacedStepped (queueing (unplacedState s) a e)
-queueing-unplaced s a e = ap (λ u. record { answer = a; state = u; sums = [] }) (push-alike s e)
+queueing-unplaced s a e = ap (λ u. record { answer = a; falls = none; state = u; sums = [] }) (push-alike s e)
 
 -- the step changes nothing
 pub unmoved-unplaced : (s : State) (a : Bool) → unplacedStepped (unmoved s a) ≡ unplacedStepped (unmoved (unplacedState s) a)
-unmoved-unplaced s a = ap (λ u. record { answer = a; state = u; sums = [] }) (sym (unplaced-state-twice s))
+unmoved-unplaced s a = ap (λ u. record { answer = a; falls = none; state = u; sums = [] }) (sym (unplaced-state-twice s))
 
 -- ---- `PaddingSent`
 
@@ -56,7 +56,7 @@ replace-unplaced s now h =
     let q : Alike (addAggregates (putEvent t e) new) (addAggregates (putEvent t′ e′) new′) =
     settled (addAggregates (putEvent t e) new) (addAggregates (putEvent t′ e′) new′)
     (add-unplaced (putEvent t e) new ∙ ap (λ u. addAggregates u new) (put-unplaced t e) ∙ (λ d. addAggregates (putEvent (lift-unplaced s h d) e′) (sym pn d))) in
-    λ d. record { answer = false; state = q d; sums = sym pt d ++ map (λ (a : Aggregate). a .moment) (sym pn d) }
+    λ d. record { answer = false; falls = none; state = q d; sums = sym pt d ++ map (λ (a : Aggregate). a .moment) (sym pn d) }
 
 own-unplaced : (s : State) (e : Event) → unplacedStepped (asPadding s e) ≡ unplacedStepped (asPadding (unplacedState s) e)
 own-unplaced s e = queueing-unplaced s false (packet TunnelSent (e .moment) (e .delay) (e .side) true (e .bypass) (e .replace))
@@ -101,9 +101,17 @@ stamps-unplaced : (s : State) (z : Side) → length (side (unplacedState s) z .s
 stamps-unplaced s client = unplaced-length (s .client .stamps)
 stamps-unplaced s server = unplaced-length (s .server .stamps)
 
+falls-of-list : (w : ℕ) (l : List (Held ℕ)) → countFalls w (unplacedList l) ≡ countFalls w l
+falls-of-list w [] = refl
+falls-of-list w (t ∷ l) = refl
+
+falls-unplaced : (s : State) (z : Side) (w : ℕ) → countFalls w (side (unplacedState s) z .stamps) ≡ countFalls w (side s z .stamps)
+falls-unplaced s client w = falls-of-list w (s .client .stamps)
+falls-unplaced s server w = falls-of-list w (s .server .stamps)
+
 tunnel-unplaced : (s : State) (now : ℕ) (e : Event) → unplacedStepped (stepTunnel s now e) ≡ unplacedStepped (stepTunnel (unplacedState s) now e)
 unfolding stepTunnel
-tunnel-unplaced s now e = λ d. record { answer = true; state = q d; sums = sumsOf (pn d) (pb d) (pt d) (pr d) }
+tunnel-unplaced s now e = λ d. record { answer = true; falls = pf d; state = q d; sums = sumsOf (pn d) (pb d) (pt d) (pr d) }
   where
     z : Side
     z = e .side
@@ -131,6 +139,9 @@ tunnel-unplaced s now e = λ d. record { answer = true; state = q d; sums = sums
 
     pn : length (side t z .stamps) ≡ length (side t′ z .stamps)
     pn = sym (stamps-unplaced t z) ∙ ap (λ u. length (side u z .stamps)) (stamp-alike s z now) ∙ stamps-unplaced t′ z
+
+    pf : countFalls (s .settings .window) (side t z .stamps) ≡ countFalls (s .settings .window) (side t′ z .stamps)
+    pf = sym (falls-unplaced t z (s .settings .window)) ∙ ap (λ u. countFalls (s .settings .window) (side u z .stamps)) (stamp-alike s z now) ∙ falls-unplaced t′ z (s .settings .window)
 
     pb : onDelayed (side s z) (s .client .sum) (e .moment) ≡ onDelayed (side (unplacedState s) z) (s .client .sum) (e .moment)
     pb = sym (ap (λ x. onDelayed x (s .client .sum) (e .moment)) (side-unplaced s z) ∙ on-delayed-unplaced (side s z) (s .client .sum) (e .moment))

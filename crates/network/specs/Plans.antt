@@ -15,7 +15,7 @@ use Rattle.rules.specs.ChoiceHeads.{Head, waitingHead}
 use Rattle.rules.specs.ChoiceRound.{liftEvent}
 use Rattle.rules.specs.Aggregates.{someSum, addAggregates, aggregatesOf, onDelayed, onReplace, testSums}
 use Rattle.rules.specs.Queueing.{pushEvent, putEvent}
-use Rattle.rules.specs.NetworkStep.{Stepped, packet, unmoved, asPadding, letPass, stampsKept, extraOver, rateOf, reported, stamp}
+use Rattle.rules.specs.NetworkStep.{Stepped, packet, unmoved, asPadding, letPass, countFalls, stampsKept, extraOver, rateOf, reported, stamp}
 use Rattle.event.specs.declared.SimEvent.{SimEvent}
 use Rattle.event.specs.HandedIn.{eventIn}
 use Rattle.queue.specs.declared.peek.Head.{Head as HeadFound}
@@ -107,6 +107,7 @@ tunnelStep s now e p =
     let d : ℕ = s .settings .networkDelay in
     record {
       answer = true;
+      falls = countFalls (s .settings .window) (side (stamp s (e .side) now) (e .side) .stamps);
       state = pushEvent (addAggregates (stamp s (e .side) now) (aggregatesOf d (e .side) now (p .by))) (p .received);
       sums = tunnelSums d (e .side) now p;
     }
@@ -175,6 +176,7 @@ paddingStep s now e (takes h by formed) =
     let d : ℕ = s .settings .networkDelay in
     record {
       answer = false;
+      falls = none;
       state = addAggregates (putEvent (liftEvent s h) (inRecord (h .place) (letPass (h .event)))) (aggregatesOf d (h .event .side) now by);
       sums = paddingSums d now (takes h by formed);
     }

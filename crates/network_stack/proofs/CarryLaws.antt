@@ -5,12 +5,15 @@ use mathlib.Core.List.{List}
 use native.Mathlib.Omega.{arith}
 use lib.ListN.{length}
 use borrow.Author.Tests.{ltb-false}
-use Rattle.rules.specs.State.{reserved, State}
+use Rattle.rules.specs.State.{reserved}
 use Rattle.rules.specs.Aggregates.{aggregatesOf}
 use Rattle.rules.specs.Queueing.{pushEvent}
-use Rattle.rules.specs.NetworkStep.{stepPadding, stepTunnel}
+use Rattle.rules.specs.NetworkStep.{Stepped, stepPadding, stepTunnel}
+use Rattle.laws.specs.CountFalls.{padding-tells-none}
 use Rattle.event.specs.HandedIn.{sideOf}
 use Rattle.event.specs.declared.SimEvent.{SimEvent}
+use Rattle.event.specs.declared.answer.Falls.{Falls}
+use Rattle.event.specs.declared.answer.Falls.the-variants.{Never}
 use Rattle.layout.specs.Layout.{stateOf}
 use Rattle.queue.specs.Changes.{Leaves, countIn}
 use Rattle.queue.specs.Pushes.{MayPush}
@@ -22,24 +25,24 @@ use Rattle.network.specs.Plans.{paddedOf, paddingOf, paddingRecords, sentOf}
 use Rattle.layout.proofs.Shapes.{accepted-shaped}
 use Rattle.network_stack.specs.declared.plan.Plan.{Plan}
 use Rattle.network_stack.specs.declared.plan.Plan.the-variants.{Nothing, Pad, Queue, Send}
-use Rattle.network_stack.specs.Packets.{MayPad, MaySend}
+use Rattle.network_stack.specs.Packets.{Carried, MayPad, MaySend}
 use Rattle.network_stack.specs.Steps.{MayMake, Planned, Queues, Pads, Sends, afterOf}
 use Rattle.network_stack.proofs.PlanLaws.{after-pad, after-send}
 use Rattle.network_stack.proofs.FullLaws.{full-pad, full-queue, full-send}
 
--- the same state, by an equation
-left-as : (w left : List ℕ) (s t : State) → Leaves w left s → s ≡ t → Leaves w left t
-left-as w left s t l e = subst (Leaves w left) e l
+-- the same step, by an equation
+carried-as : (w left : List ℕ) (x y : Stepped) (f : Falls) → Carried w left x f → x ≡ y → Carried w left y f
+carried-as w left x y f c e = subst (λ z. Carried w left z f) e c
 
 module _ (w : List ℕ) (p : Plan) (e : SimEvent) (d now : ℕ) (may : MayMake w p e d now) where
-  pub make-nothing : p ≡ Nothing → Leaves w w (afterOf (stateOf w) now e .state)
+  pub make-nothing : p ≡ Nothing → Carried w w (afterOf (stateOf w) now e) Never
   unfolding Planned
   make-nothing q =
+      let is = subst (Planned (stateOf w) now e) q (may .plan) in
       record {
-        shaped = accepted-shaped w (may .accepted);
-        state = sym (ap (λ r. r .state) (subst (Planned (stateOf w) now e) q (may .plan)));
-        size = refl;
-        beside = λ i l o. refl;
+        leaves =
+            record { shaped = accepted-shaped w (may .accepted); state = sym (ap (λ r. r .state) is); size = refl; beside = λ i l o. refl };
+        falls = sym (ap (λ r. r .falls) is);
       }
 
   module _ (v : SimEvent) (q : p ≡ Queue v) where
@@ -53,8 +56,8 @@ module _ (w : List ℕ) (p : Plan) (e : SimEvent) (d now : ℕ) (may : MayMake w
     pub queue-may : MayPush w v
     queue-may = record { shaped = accepted-shaped w (may .accepted); free = omega (arith, queue-free); canonical = queues .canonical }
 
-    pub make-queue : (left : List ℕ) → Leaves w left (pushEvent (stateOf w) (eventValue v)) → Leaves w left (afterOf (stateOf w) now e .state)
-    make-queue left l = left-as w left _ _ l (sym (ap (λ r. r .state) (queues .step)))
+    pub make-queue : (left : List ℕ) → Leaves w left (pushEvent (stateOf w) (eventValue v)) → Carried w left (afterOf (stateOf w) now e) Never
+    make-queue left l = carried-as w left _ _ Never (record { leaves = l; falls = refl }) (sym (queues .step))
 
   module _ (v : Padding) (q : p ≡ Pad v) where
     pads : Pads (stateOf w) now e v
@@ -67,8 +70,9 @@ module _ (w : List ℕ) (p : Plan) (e : SimEvent) (d now : ℕ) (may : MayMake w
     pub pad-may : MayPad w v e d now
     pad-may = record { accepted = may .accepted; plan = pads .plan; free = omega (arith, pad-free); delay = may .delay; time = may .time }
 
-    pub make-pad : (left : List ℕ) → Leaves w left (stepPadding (stateOf w) now (paddedOf e) .state) → Leaves w left (afterOf (stateOf w) now e .state)
-    make-pad left l = left-as w left _ _ l (sym (ap (λ r. r .state) (after-pad (stateOf w) now e (pads .kind))))
+    pub make-pad : (left : List ℕ) → Leaves w left (stepPadding (stateOf w) now (paddedOf e) .state) → Carried w left (afterOf (stateOf w) now e) Never
+    make-pad left l =
+        carried-as w left _ _ Never (record { leaves = l; falls = sym (padding-tells-none (stateOf w) now (paddedOf e)) }) (sym (after-pad (stateOf w) now e (pads .kind)))
 
   module _ (t : Tunnel) (q : p ≡ Send t) where
     sends : Sends (stateOf w) now e t
@@ -83,5 +87,5 @@ module _ (w : List ℕ) (p : Plan) (e : SimEvent) (d now : ℕ) (may : MayMake w
     pub send-may : MaySend w t e d now
     send-may = record { accepted = may .accepted; plan = sends .plan; free = omega (arith, send-free); delay = may .delay; time = may .time }
 
-    pub make-send : (left : List ℕ) → Leaves w left (stepTunnel (stateOf w) now (sentOf e) .state) → Leaves w left (afterOf (stateOf w) now e .state)
-    make-send left l = left-as w left _ _ l (sym (ap (λ r. r .state) (after-send (stateOf w) now e (sends .kind))))
+    pub make-send : (left : List ℕ) (f : Falls) → Carried w left (stepTunnel (stateOf w) now (sentOf e)) f → Carried w left (afterOf (stateOf w) now e) f
+    make-send left f c = carried-as w left _ _ f c (sym (after-send (stateOf w) now e (sends .kind)))

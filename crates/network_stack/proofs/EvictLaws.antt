@@ -83,7 +83,8 @@ no-small client = omega arith
 no-small server = omega arith
 
 module _ (w : List ℕ) (z : Side) (s : Shaped w) where
-  nodes-are : side (stateOf w) z .stamps ≡ map heldStamp (nodes (drop 256 w) (countIn w (5 + 5 * sideNo z)) (headIn w (5 + 5 * sideNo z)))
+  -- the stamps as they stand in the words
+  pub nodes-are : side (stateOf w) z .stamps ≡ map heldStamp (nodes (drop 256 w) (countIn w (5 + 5 * sideNo z)) (headIn w (5 + 5 * sideNo z)))
   nodes-are = stamps-are w z ∙ ap (map heldStamp) (chains-at (take 256 w) (drop 256 w) (5 + 5 * sideNo z) (no-small z))
 
   pub stamps-first : firstPlace (side (stateOf w) z .stamps) ≡ headIn w (5 + 5 * sideNo z)

@@ -13,9 +13,10 @@ use Rattle.rules.specs.Aggregates.{addAggregates, aggregatesOf, someSum}
 use Rattle.rules.specs.ChoiceHeads.{Head as RulesHead, waitingHead}
 use Rattle.rules.specs.ChoiceRound.{liftEvent}
 use Rattle.rules.specs.Queueing.{pushEvent}
-use Rattle.rules.specs.NetworkStep.{packet, stamp, stepPadding, stepTunnel}
+use Rattle.rules.specs.NetworkStep.{Window as RulesWindow, packet, stamp, stepPadding, stepTunnel}
 use Rattle.laws.specs.Heads.{HeadOf, waiting-first}
 use Rattle.event.specs.HandedIn.{sideOf}
+use Rattle.event.specs.Answers.{fallsOf}
 use Rattle.event.specs.declared.SimEvent.{SimEvent}
 use Rattle.layout.specs.Accepted.{Accepted}
 use Rattle.layout.specs.Layout.{stateOf}
@@ -39,8 +40,9 @@ use Rattle.network.proofs.PaddingLaws.{padding-step}
 use Rattle.network.proofs.RoomLaws.{aggregates-long}
 use Rattle.network.proofs.TunnelLaws.{tunnel-step}
 use Rattle.network.proofs.WaitLaws.{waits-in}
-use Rattle.network_stack.specs.Packets.{MayPad, MayReplace, MaySend, Packet, passedOn}
-use Rattle.network_stack.specs.Writes.{MayStamp}
+use Rattle.network_stack.specs.Packets.{Carried, MayPad, MayReplace, MaySend, Packet, passedOn}
+use Rattle.network_stack.specs.Windows.{Stampable, Stamped}
+use Rattle.network_stack.specs.declared.window_count.Window.{Window}
 use Rattle.network_stack.proofs.EvictLaws.{stamp-free}
 use Rattle.network_stack.proofs.PacketLaws.{recv-canonical}
 use Rattle.network_stack.proofs.TakeLaws.{passed-free}
@@ -157,10 +159,18 @@ module _ (w : List ℕ) (t : Tunnel) (e : SimEvent) (d now : ℕ) (may : MaySend
   unfolding tunnelPlan
   stale-is = ap (λ p. p .stale) (may .plan)
 
-  pub send-stamp : MayStamp w (sideOf (e .client)) now (t .stale)
-  send-stamp = record { shaped = accepted-shaped w (may .accepted); stale = stale-is; free = omega (arith, may .free) }
+  pub send-stamp : Stampable w (sideOf (e .client)) now (t .stale)
+  send-stamp =
+      record {
+        may = record { shaped = accepted-shaped w (may .accepted); stale = stale-is; free = omega (arith, may .free) };
+        accepted = may .accepted;
+        time = may .time;
+      }
 
-  module _ (v : List ℕ) (l : Leaves w v (stamp (stateOf w) (sideOf (e .client)) now)) where
+  module _ (v : List ℕ) (told : Window) (st : Stamped w v (sideOf (e .client)) now told) where
+    l : Leaves w v (stamp (stateOf w) (sideOf (e .client)) now)
+    l = st .leaves
+
     free-left : countIn v 0 ≡ countIn w 0 + t .stale - 1
     free-left =
         omega
@@ -185,14 +195,23 @@ module _ (w : List ℕ) (t : Tunnel) (e : SimEvent) (d now : ℕ) (may : MaySend
             canonical = received-canonical;
           }
 
-      pub send-done : (left : List ℕ) → Leaves u left (pushEvent (stateOf u) (eventValue (t .received))) → Leaves w left (stepTunnel (stateOf w) now (sentOf e) .state)
+      -- what the stamp told is what the step hands on
+      handed-on : fallsOf (told .falls) ≡ stepTunnel (stateOf w) now (sentOf e) .falls
+      unfolding stepTunnel
+      handed-on = ap (λ (x : RulesWindow). x .falls) (st .tells)
+
+      pub send-done : (left : List ℕ) → Leaves u left (pushEvent (stateOf u) (eventValue (t .received))) → Carried w left (stepTunnel (stateOf w) now (sentOf e)) (told .falls)
       send-done left n =
           record {
-            shaped = n .shaped;
-            state =
-                n .state
-                ∙ ap (λ s. pushEvent s (eventValue (t .received))) (m .state ∙ ap₂ (λ s x. addAggregates s (aggregatesOf x (sideOf (e .client)) now (delayedOf (t .by)))) (l .state) (may .delay))
-                ∙ sym (ap (λ r. r .state) (tunnel-step (stateOf w) now (sentOf e)) ∙ ap (λ p. tunnelStep (stateOf w) now (sentOf e) p .state) (sym (may .plan)));
-            size = n .size ∙ m .size ∙ l .size;
-            beside = λ i b o. n .beside i b o ∙ m .beside i b o ∙ l .beside i b o;
+            leaves =
+                record {
+                  shaped = n .shaped;
+                  state =
+                      n .state
+                      ∙ ap (λ s. pushEvent s (eventValue (t .received))) (m .state ∙ ap₂ (λ s x. addAggregates s (aggregatesOf x (sideOf (e .client)) now (delayedOf (t .by)))) (l .state) (may .delay))
+                      ∙ sym (ap (λ r. r .state) (tunnel-step (stateOf w) now (sentOf e)) ∙ ap (λ p. tunnelStep (stateOf w) now (sentOf e) p .state) (sym (may .plan)));
+                  size = n .size ∙ m .size ∙ l .size;
+                  beside = λ i b o. n .beside i b o ∙ m .beside i b o ∙ l .beside i b o;
+                };
+            falls = handed-on;
           }

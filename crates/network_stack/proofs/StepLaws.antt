@@ -1,24 +1,26 @@
 -- Laws of the step as the call makes it: refused with number 9 or 10, or carried out. Assumes nothing.
 use Prim.Native.Nat.{ℕ, _+_, _≤_, _<_, _*_}
-use mathlib.Core.Path.{_≡_, refl, sym, ap, _∙_}
+use mathlib.Core.Path.{_≡_, refl, sym, ap, ap₂, _∙_}
 use mathlib.Core.Bool.{Bool, true, false, false≢true}
 use mathlib.Core.List.{List}
 use mathlib.Core.Logic.{_⊎_}
+use mathlib.Core.Option.{Option}
 use native.Mathlib.Omega.{arith}
 use lib.ListN.{getD, set, take, length-set}
 use lib.Seq.{getD-set-other, getD-take}
 use Rattle.rules.specs.Basics.{if_then_else_, kindOf}
 use Rattle.rules.specs.State.{State, withEnded}
 use Rattle.rules.specs.Limits.{durationLimit}
-use Rattle.rules.specs.Choice.{Answer as RulesAnswer, no-step, refused, yes-step}
+use Rattle.rules.specs.Choice.{Answer as RulesAnswer, refused, step-made}
 use Rattle.rules.specs.Calls.{leaves}
 use Rattle.rules.specs.Effects.{afterStep}
 use Rattle.rules.specs.ChoiceRound.{fits}
 use Rattle.rules.specs.NetworkStep.{Stepped as RulesStepped}
 use Rattle.rules.specs.Refusals.{full}
-use Rattle.event.specs.Answers.{yesOrNo}
+use Rattle.event.specs.Answers.{fallsOf}
 use Rattle.event.specs.HandedIn.{eventIn, sideOf}
 use Rattle.event.specs.declared.SimEvent.{SimEvent}
+use Rattle.event.specs.declared.answer.Falls.{Falls}
 use Rattle.event.specs.declared.answer.Step.the-variants.{Made, Refused}
 use Rattle.layout.specs.Accepted.{Accepted}
 use Rattle.layout.specs.Layout.{stateFrom, stateOf}
@@ -35,6 +37,7 @@ use Rattle.queue.proofs.Sizes.{stamps-length}
 use Rattle.layout.proofs.Spares.{spare-chains, spare-head}
 use Rattle.network_stack.specs.declared.plan.Plan.{Plan}
 use Rattle.network_stack.specs.declared.plan.Plan.the-variants.{Nothing, Pad, Queue, Send}
+use Rattle.network_stack.specs.Packets.{Carried}
 use Rattle.network_stack.specs.Steps.{MayMake, MayStep, Planned, StepDone, afterOf, noRoom, planGivesBack, planSums}
 use Rattle.network_stack.proofs.PlanLaws.{planned-fits}
 use Rattle.network_stack.proofs.FullLaws.{planned-full}
@@ -66,16 +69,11 @@ module _ (w : List ℕ) (a : Accepted w) where
 
 -- ---- the answers are told apart
 
-not-ten : (b : Bool) → yesOrNo b ≡ refused 10 0 → ⊥
-not-ten true e = let z : _≡_ {A = ℕ} 0 1 = cc in omega arith
-not-ten false e = let z : _≡_ {A = ℕ} 0 1 = cc in omega arith
+not-ten : (b : Bool) (f : Option ℕ) → step-made b f ≡ refused 10 0 → ⊥
+not-ten b f e = let z : _≡_ {A = ℕ} 0 1 = cc in omega arith
 
 nine-ten : _≡_ {A = RulesAnswer} (refused 9 0) (refused 10 0) → ⊥
 nine-ten e = let z : _≡_ {A = ℕ} 9 10 = cc in omega arith
-
-answer-is : (b : Bool) → yesOrNo b ≡ (if b then yes-step else no-step)
-answer-is true = refl
-answer-is false = refl
 
 -- a word without a meaning is none that a change of chains writes
 spare-beside : (i : ℕ) → Spare i → (i < 256) × ((i < 24) ⊎ (48 ≤ i))
@@ -119,10 +117,10 @@ module _ (w : List ℕ) (e : SimEvent) (now : ℕ) (p : Plan) (may : MayStep w e
     step-ten t =
         record {
           nine = λ f. clash _ f (sym full-is ∙ no);
-          answer = λ f. sym (ap (λ b. if_then_else_ b (leaves (after .state) (if after .answer then yes-step else no-step)) (leaves (withEnded (stateOf w) true) (refused 10 0)) .answer) no-fit);
+          answer = λ f. sym (ap (λ b. if_then_else_ b (leaves (after .state) (step-made (after .answer) (after .falls))) (leaves (withEnded (stateOf w) true) (refused 10 0)) .answer) no-fit);
           state = λ f.
               ended-stored w (accepted-shaped w (may .accepted)) 1
-              ∙ sym (ap (λ b. if_then_else_ b (leaves (after .state) (if after .answer then yes-step else no-step)) (leaves (withEnded (stateOf w) true) (refused 10 0)) .state) no-fit);
+              ∙ sym (ap (λ b. if_then_else_ b (leaves (after .state) (step-made (after .answer) (after .falls))) (leaves (withEnded (stateOf w) true) (refused 10 0)) .state) no-fit);
           shaped = ended-shaped w (accepted-shaped w (may .accepted)) 1 (omega arith);
           size = length-set w 16 1;
           spare = λ i s. getD-set-other w 16 i 1 0 (spare-not i s);
@@ -136,22 +134,25 @@ module _ (w : List ℕ) (e : SimEvent) (now : ℕ) (p : Plan) (may : MayStep w e
         no-fit = sym fits-is ∙ t
 
     module _ (yes : y ≡ true) where
-      pub step-made : (left : List ℕ) (b : Bool) → Leaves w left (afterOf (stateOf w) now e .state)
-          → ((s : State) (t : ℕ) (v : SimEvent) → v .kind .0 ≡ e .kind .0 → b ≡ afterOf s t v .answer) → StepDone w now e (Made (record { active = b })) left
+      pub step-done : (left : List ℕ) (b : Bool) (f : Falls) → Carried w left (afterOf (stateOf w) now e) f
+          → ((s : State) (t : ℕ) (v : SimEvent) → v .kind .0 ≡ e .kind .0 → b ≡ afterOf s t v .answer) → StepDone w now e (Made (record { active = b; falls = f })) left
       unfolding afterOf
-      step-made left b l eb =
+      step-done left b f c eb =
           record {
             nine = λ f. clash _ f (sym full-is ∙ no);
             answer = λ f.
-                answer-is b ∙ ap (λ a. if_then_else_ a yes-step no-step) (eb (stateOf w) now e refl)
-                ∙ sym (ap (λ b. if_then_else_ b (leaves (after .state) (if after .answer then yes-step else no-step)) (leaves (withEnded (stateOf w) true) (refused 10 0)) .answer) does-fit);
-            state = λ f. l .state ∙ sym (ap (λ b. if_then_else_ b (leaves (after .state) (if after .answer then yes-step else no-step)) (leaves (withEnded (stateOf w) true) (refused 10 0)) .state) does-fit);
+                ap₂ step-made (eb (stateOf w) now e refl) (c .falls)
+                ∙ sym (ap (λ b. if_then_else_ b (leaves (after .state) (step-made (after .answer) (after .falls))) (leaves (withEnded (stateOf w) true) (refused 10 0)) .answer) does-fit);
+            state = λ f. l .state ∙ sym (ap (λ b. if_then_else_ b (leaves (after .state) (step-made (after .answer) (after .falls))) (leaves (withEnded (stateOf w) true) (refused 10 0)) .state) does-fit);
             shaped = l .shaped;
             size = l .size;
             spare = λ i s. l .beside i (spare-beside i s .0) (spare-beside i s .1);
-            ten = λ q. absurd (not-ten b q);
+            ten = λ q. absurd (not-ten b (fallsOf f) q);
           }
         where
+          l : Leaves w left (afterOf (stateOf w) now e .state)
+          l = c .leaves
+
           after : RulesStepped
           after = afterStep (stateOf w) now (eventIn e) (kindOf (e .kind .0))
 

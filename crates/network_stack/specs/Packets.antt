@@ -13,15 +13,17 @@ use Rattle.rules.specs.ChoiceHeads.{Head as RulesHead}
 use Rattle.rules.specs.ChoiceRound.{liftEvent}
 use Rattle.rules.specs.Queueing.{putEvent}
 use Rattle.rules.specs.Aggregates.{aggregatesOf}
-use Rattle.rules.specs.NetworkStep.{letPass, packet}
+use Rattle.rules.specs.NetworkStep.{Stepped, letPass, packet}
 use Rattle.laws.specs.Heads.{HeadOf}
 use Rattle.event.specs.HandedIn.{sideOf}
+use Rattle.event.specs.Answers.{fallsOf}
+use Rattle.event.specs.declared.answer.Falls.{Falls}
 use Rattle.event.specs.declared.SimEvent.{SimEvent}
 use Rattle.layout.specs.Accepted.{Accepted}
 use Rattle.layout.specs.Layout.{stateOf}
 use Rattle.layout.specs.Shape.{Shaped}
 use Rattle.queue.specs.declared.peek.Head.{Head}
-use Rattle.queue.specs.Changes.{countIn}
+use Rattle.queue.specs.Changes.{Leaves, countIn}
 use Rattle.queue.specs.Heads.{headFrom}
 use Rattle.queue.specs.Pushes.{Canonical}
 use Rattle.event.specs.Values.{eventValue}
@@ -79,3 +81,10 @@ pub record MaySend (w : List ℕ) (t : Tunnel) (e : SimEvent) (d now : ℕ) : Ty
   pub free : 2 + length (aggregatesOf d (sideOf (e .client)) now (delayedOf (t .by))) ≤ countIn w 0 + t .stale
   pub delay : d ≡ stateOf w .settings .networkDelay
   pub time : now ≤ momentLimit
+
+-- ---- a step that is carried out
+
+-- the state held is the one that the step x leaves, and f is when it says that the packet count falls
+pub record Carried (w left : List ℕ) (x : Stepped) (f : Falls) : Type 0 where
+  pub leaves : Leaves w left (x .state)
+  pub falls : fallsOf f ≡ x .falls

@@ -1,17 +1,22 @@
 -- `WindowCount`: the window of a side's stamps, and what adding a stamp to it asks and leaves. Assumes nothing.
-use Prim.Native.Nat.{ℕ, _≤_}
+use Prim.Native.Nat.{ℕ, _≤_, _<_}
 use mathlib.Core.Path.{_≡_}
 use mathlib.Core.List.{List, [], _∷_}
 use lib.ListN.{length}
 use Rattle.rules.specs.Basics.{Side}
 use Rattle.rules.specs.State.{Held, side}
-use Rattle.rules.specs.NetworkStep.{stampsKept, stamp}
+use Rattle.rules.specs.Limits.{momentLimit, durationLimit}
+use Rattle.rules.specs.NetworkStep.{Window as RulesWindow, stampTells, stampsKept, stamp}
+use Rattle.laws.specs.Fits.{All}
+use Rattle.event.specs.Answers.{fallsOf}
+use Rattle.layout.specs.Accepted.{Accepted}
 use Rattle.layout.specs.Layout.{stateOf}
 use Rattle.layout.specs.Shape.{Shaped}
 use Rattle.layout.specs.Changes.{putChain, stampsNo}
 use Rattle.queue.specs.Changes.{Beside, Leaves, countIn, headIn}
 use Rattle.queue.specs.Stamps.{firstPlace, dropStamps}
 use Rattle.network_stack.specs.Writes.{MayStamp}
+use Rattle.network_stack.specs.declared.window_count.Window.{Window}
 use Rattle.network_stack.specs.declared.window_count.WindowCount.{WindowCount}
 
 -- ---- the window
@@ -67,3 +72,26 @@ pub record Counted (w left : List ℕ) (z : Side) (now : ℕ) (r : WindowCount) 
   pub leaves : Leaves w (putChain left (stampsNo z) (r .first) (r .count)) (stamp (stateOf w) z now)
   pub first : headIn left (stampsNo z) ≡ firstPlace (stampsKept (stateOf w .settings .window) now (side (stateOf w) z .stamps))
   pub count : countIn left (stampsNo z) ≡ length (stampsKept (stateOf w .settings .window) now (side (stateOf w) z .stamps))
+
+-- ---- what it tells
+
+-- there is a stamp, and stamps and window are within their limits
+pub record MayTell (v : List ℕ) (z : Side) : Type 0 where
+  pub shaped : Shaped v
+  pub some : 0 < length (side (stateOf v) z .stamps)
+  pub stamps : All (λ (t : Held ℕ). t .value ≤ momentLimit) (side (stateOf v) z .stamps)
+  pub window : stateOf v .settings .window ≤ durationLimit
+
+abbrev pub windowTold : Window → RulesWindow
+windowTold r = record { count = r .count; falls = fallsOf (r .falls) }
+
+-- a stamp may be added, to accepted words and at a moment
+pub record Stampable (w : List ℕ) (z : Side) (now gone : ℕ) : Type 0 where
+  pub may : MayStamp w z now gone
+  pub accepted : Accepted w
+  pub time : now ≤ momentLimit
+
+-- the stamp is added, and r is what the rules tell of the side's stamps, the new one with them
+pub record Stamped (w left : List ℕ) (z : Side) (now : ℕ) (r : Window) : Type 0 where
+  pub leaves : Leaves w left (stamp (stateOf w) z now)
+  pub tells : windowTold r ≡ stampTells (stateOf w .settings .window) (side (stamp (stateOf w) z now) z .stamps)

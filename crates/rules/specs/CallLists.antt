@@ -6,7 +6,7 @@ use mathlib.Core.List.{List, [], _∷_}
 use mathlib.Core.Option.{Option, none, some}
 use lib.Dec.{eqb, leb, ltb}
 use lib.ListN.{length}
-use Rattle.rules.specs.Choice.{Answer, done, event, no-step, nothing-left, refused, yes-step}
+use Rattle.rules.specs.Choice.{Answer, done, event, nothing-left, refused, step-made}
 use Rattle.rules.specs.Arguments.{Call, clear-action, clear-timer, pick-next, push, set-action, set-timer, sim-network-stack}
 use Rattle.rules.specs.ChoiceRound.{RoundOutcome, next, nothing, passed, round, taken}
 use Rattle.rules.specs.State.{SideState, State, queued, reserved, roundsLeft, used}
@@ -64,8 +64,7 @@ abbrev pub carried : Answer → ℕ
 carried done = 0
 carried (event e k) = k
 carried (nothing-left k) = k
-carried yes-step = 0
-carried no-step = 0
+carried (step-made a f) = 0
 carried (refused n k) = k
 
 -- ---- the allowance of demand 3: "for calls not refused, one for each choice, two for each network step, four for each action set and one for
@@ -75,8 +74,7 @@ abbrev pub isRefused : Answer → Bool
 isRefused done = false
 isRefused (event e k) = false
 isRefused (nothing-left k) = false
-isRefused yes-step = false
-isRefused no-step = false
+isRefused (step-made a f) = false
 isRefused (refused n k) = true
 
 abbrev pub allowanceOf : Call → ℕ
@@ -126,6 +124,5 @@ abbrev pub saysNothing : Answer → Bool
 saysNothing done = false
 saysNothing (event e k) = false
 saysNothing (nothing-left k) = true
-saysNothing yes-step = false
-saysNothing no-step = false
+saysNothing (step-made a f) = false
 saysNothing (refused n k) = false

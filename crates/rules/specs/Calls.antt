@@ -2,7 +2,7 @@
 use Prim.Native.Nat.{ℕ}
 use mathlib.Core.Option.{Option, none, some}
 use mathlib.Core.Bool.{true}
-use Rattle.rules.specs.Choice.{Answer, Called, choose, done, no-step, refused, yes-step}
+use Rattle.rules.specs.Choice.{Answer, Called, choose, done, refused, step-made}
 use Rattle.rules.specs.Arguments.{Call, actionKindOf, clear-action, clear-timer, pick-next, push, set-action, set-timer, sim-network-stack}
 use Rattle.rules.specs.State.{State, withEnded}
 use Rattle.rules.specs.NetworkStep.{Stepped}
@@ -16,7 +16,7 @@ leaves s a = record { answer = a; state = s }
 
 -- a step's answer; "Number 10 sets the ended mark. [..] a step changes nothing else."
 abbrev pub stepped : State → Stepped → Called
-stepped s r = if fits (r .sums) then leaves (r .state) (if r .answer then yes-step else no-step) else leaves (withEnded s true) (refused 10 0)
+stepped s r = if fits (r .sums) then leaves (r .state) (step-made (r .answer) (r .falls)) else leaves (withEnded s true) (refused 10 0)
 
 -- what a call does that no row from 3 to 9 refuses; "clearing an empty slot changes nothing"
 unfoldable pub work : State → Call → Called

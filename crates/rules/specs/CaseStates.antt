@@ -6,7 +6,7 @@ use mathlib.Core.List.{List}
 use lib.ListN.{set}
 use Rattle.rules.specs.Contents.{values}
 use Rattle.rules.specs.State.{Action, Aggregate, Event, Fixed, State, reserved, roundsLeft, side, used, withActions, withBlock, withRounds, withSide, withSum, withTimers}
-use Rattle.rules.specs.Choice.{Called, choose, event, nothing-left, refused, rounds, Answer}
+use Rattle.rules.specs.Choice.{Called, choose, event, nothing-left, refused, rounds, step-made, Answer}
 use Rattle.rules.specs.Arguments.{Call, EventIn, sim-network-stack, set-action}
 use Rattle.rules.specs.Basics.{Kind, Side, client, server, hasMachineNo}
 use Rattle.rules.specs.Aggregates.{addAggregate, addAggregates, aggregatesOf, onDelayed, onExpire, onReplace}
@@ -98,7 +98,17 @@ setBypassableBlock z t d =
 abbrev pub stampAt : ℕ → Call
 stampAt t = sim-network-stack t (handedIn 0 t client)
 
--- ---- what calls leave
+-- ---- what calls answer, and what they leave
+
+-- a network step: yes, with the moment at which the packet count falls or without one, and no
+abbrev pub yes-falls : ℕ → Answer
+yes-falls m = step-made true (some m)
+
+abbrev pub yes-step : Answer
+yes-step = step-made true none
+
+abbrev pub no-step : Answer
+no-step = step-made false none
 
 -- an event after k rounds, and nothing left after k rounds; the round total was 0
 abbrev pub anEventIn : Event → ℕ → State → Called

@@ -1,14 +1,17 @@
 -- Document 01, "One choice": `pick_next` as counted rounds, and what calls answer.
 use Prim.Native.Nat.{_+_, suc, zero, ℕ}
+use mathlib.Core.Bool.{Bool}
+use mathlib.Core.Option.{Option}
 use Rattle.rules.specs.State.{Event, State, roundsLeft}
 use Rattle.rules.specs.ChoiceRound.{RoundOutcome, next, nothing, passed, round, taken}
 
--- what a call answers: done; an event or nothing left, with the rounds made; yes or no of a network step; a refusal's number with the rounds finished
+-- what a call answers: done; an event or nothing left, with the rounds made; yes or no of a network step, with the moment at which the packet count
+-- falls, where there is one; a refusal's number with the rounds finished
 pub data Answer : Type 0 where
   done : Answer
   event : Event → ℕ → Answer
   nothing-left : ℕ → Answer
-  yes-step no-step : Answer
+  step-made : Bool → Option ℕ → Answer
   refused : ℕ → ℕ → Answer
 
 -- the answer and the state left

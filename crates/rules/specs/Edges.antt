@@ -5,8 +5,8 @@ use mathlib.Core.Path.{_≡_, refl}
 use mathlib.Core.Bool.{false, true}
 use mathlib.Core.Option.{none, some}
 use Rattle.rules.specs.Basics.{BlockingBegin, BlockingEnd, NormalSent, TunnelRecv, TunnelSent, client, server}
-use Rattle.rules.specs.CaseStates.{aggregate, flagged, handedIn, openWith, plain, ran, rules, seen, setBlock, setBypassableBlock}
-use Rattle.rules.specs.Choice.{done, event, no-step, refused, yes-step}
+use Rattle.rules.specs.CaseStates.{aggregate, flagged, handedIn, no-step, openWith, plain, ran, rules, seen, setBlock, setBypassableBlock, yes-falls, yes-step}
+use Rattle.rules.specs.Choice.{done, event, refused}
 use Rattle.rules.specs.NetworkStep.{packet}
 use Rattle.rules.specs.Arguments.{pick-next, push, sim-network-stack}
 
@@ -70,32 +70,32 @@ pub record Edges : Type 0 where
   pub delayed-adjacent-at :
       ran (openWith 0 (some 1) 10)
       (sim-network-stack 100 (handedIn 0 100 client) ∷ push (handedIn 0 100_000_100 client) ∷ sim-network-stack 100 (handedIn 0 100 client) ∷ [])
-      ≡ seen (yes-step ∷ done ∷ yes-step ∷ []) [] (100 ∷ 100 ∷ []) false
+      ≡ seen (yes-falls 111 ∷ done ∷ yes-falls 111 ∷ []) [] (100 ∷ 100 ∷ []) false
   -- client: a waiting packet 1 ns past: two aggregates of 10
   pub delayed-adjacent-past :
       ran (openWith 0 (some 1) 10)
       (sim-network-stack 100 (handedIn 0 100 client) ∷ push (handedIn 0 100_000_101 client) ∷ sim-network-stack 100 (handedIn 0 100 client) ∷ [])
-      ≡ seen (yes-step ∷ done ∷ yes-step ∷ []) (aggregate 100 10 client ∷ aggregate 100 10 server ∷ []) (100 ∷ 100 ∷ []) false
+      ≡ seen (yes-falls 111 ∷ done ∷ yes-falls 111 ∷ []) (aggregate 100 10 client ∷ aggregate 100 10 server ∷ []) (100 ∷ 100 ∷ []) false
   -- client: the base head exactly 1 ms: no aggregate
   pub delayed-base-at :
       ran (openWith 0 (some 1) 10)
       (sim-network-stack 100 (handedIn 0 100 client) ∷ push (handedIn 1 1_000_100 client) ∷ sim-network-stack 100 (handedIn 0 100 client) ∷ [])
-      ≡ seen (yes-step ∷ done ∷ yes-step ∷ []) [] (100 ∷ 100 ∷ []) false
+      ≡ seen (yes-falls 111 ∷ done ∷ yes-falls 111 ∷ []) [] (100 ∷ 100 ∷ []) false
   -- client: the base head 1 ns past: two aggregates of 10
   pub delayed-base-past :
       ran (openWith 0 (some 1) 10)
       (sim-network-stack 100 (handedIn 0 100 client) ∷ push (handedIn 1 1_000_101 client) ∷ sim-network-stack 100 (handedIn 0 100 client) ∷ [])
-      ≡ seen (yes-step ∷ done ∷ yes-step ∷ []) (aggregate 100 10 client ∷ aggregate 100 10 server ∷ []) (100 ∷ 100 ∷ []) false
+      ≡ seen (yes-falls 111 ∷ done ∷ yes-falls 111 ∷ []) (aggregate 100 10 client ∷ aggregate 100 10 server ∷ []) (100 ∷ 100 ∷ []) false
   -- a packet above the limit uses the client's sum on both sides: only c has 2000, packet of s, base + 2000 exactly 1 ms after the packet
   pub client-sum-at :
       ran (openWith 1000 (some 1) 2000)
       (sim-network-stack 10_000 (flagged 0 10_000 server true false false) ∷ sim-network-stack 10_000 (flagged 0 10_000 server true false false) ∷ pick-next 11_500 ∷ sim-network-stack 11_500 (handedIn 0 11_500 server) ∷ push (handedIn 1 1_009_500 server) ∷ sim-network-stack 11_500 (handedIn 0 11_500 server) ∷ [])
-      ≡ seen (yes-step ∷ yes-step ∷ event (packet TunnelRecv 11_500 0 client true false false) 2 ∷ yes-step ∷ done ∷ yes-step ∷ []) (aggregate 11_500 4000 client ∷ aggregate 11_500 4000 server ∷ aggregate 12_000 2000 server ∷ []) [] false
+      ≡ seen (yes-falls 12_001 ∷ yes-falls 12_001 ∷ event (packet TunnelRecv 11_500 0 client true false false) 2 ∷ yes-falls 12_001 ∷ done ∷ yes-falls 12_001 ∷ []) (aggregate 11_500 4000 client ∷ aggregate 11_500 4000 server ∷ aggregate 12_000 2000 server ∷ []) [] false
   -- a packet above the limit uses the client's sum on both sides: only c has 2000, packet of s, 1 ns past
   pub client-sum-past :
       ran (openWith 1000 (some 1) 2000)
       (sim-network-stack 10_000 (flagged 0 10_000 server true false false) ∷ sim-network-stack 10_000 (flagged 0 10_000 server true false false) ∷ pick-next 11_500 ∷ sim-network-stack 11_500 (handedIn 0 11_500 server) ∷ push (handedIn 1 1_009_501 server) ∷ sim-network-stack 11_500 (handedIn 0 11_500 server) ∷ [])
-      ≡ seen (yes-step ∷ yes-step ∷ event (packet TunnelRecv 11_500 0 client true false false) 2 ∷ yes-step ∷ done ∷ yes-step ∷ []) (aggregate 11_500 4000 client ∷ aggregate 11_500 4000 server ∷ aggregate 11_500 6000 client ∷ aggregate 11_500 6000 server ∷ aggregate 12_000 2000 server ∷ []) [] false
+      ≡ seen (yes-falls 12_001 ∷ yes-falls 12_001 ∷ event (packet TunnelRecv 11_500 0 client true false false) 2 ∷ yes-falls 12_001 ∷ done ∷ yes-falls 12_001 ∷ []) (aggregate 11_500 4000 client ∷ aggregate 11_500 4000 server ∷ aggregate 11_500 6000 client ∷ aggregate 11_500 6000 server ∷ aggregate 12_000 2000 server ∷ []) [] false
   -- ---- 4D, 3D and D of an aggregate, D = 20
 
   -- client's block, length 59: client 80 - 59, server 60 - 59, not below 0
@@ -171,22 +171,69 @@ pub record Edges : Type 0 where
   pub rate-edge :
       ran (openWith 0 (some 2) 10)
       (sim-network-stack 100 (handedIn 0 100 client) ∷ sim-network-stack 100 (handedIn 0 100 client) ∷ sim-network-stack 100 (handedIn 0 100 client) ∷ sim-network-stack 100 (handedIn 0 100 client) ∷ [])
-      ≡ seen (yes-step ∷ yes-step ∷ yes-step ∷ yes-step ∷ []) (aggregate 100 5 client ∷ aggregate 100 5 server ∷ aggregate 100 10 client ∷ aggregate 100 10 server ∷ []) (100 ∷ 100 ∷ 100 ∷ 100 ∷ []) false
+      ≡ seen (yes-falls 111 ∷ yes-falls 111 ∷ yes-falls 111 ∷ yes-falls 111 ∷ []) (aggregate 100 5 client ∷ aggregate 100 5 server ∷ aggregate 100 10 client ∷ aggregate 100 10 server ∷ []) (100 ∷ 100 ∷ 100 ∷ 100 ∷ []) false
   -- window div rate is 0: no extra delay and no aggregate test
   pub no-extra :
       ran (openWith 0 (some 2) 1)
       (sim-network-stack 100 (handedIn 0 100 client) ∷ sim-network-stack 100 (handedIn 0 100 client) ∷ sim-network-stack 100 (handedIn 0 100 client) ∷ [])
-      ≡ seen (yes-step ∷ yes-step ∷ yes-step ∷ []) [] (100 ∷ 100 ∷ 100 ∷ []) false
+      ≡ seen (yes-falls 102 ∷ yes-falls 102 ∷ yes-falls 102 ∷ []) [] (100 ∷ 100 ∷ 100 ∷ []) false
   -- window div rate is 1: extra 1
   pub some-extra :
       ran (openWith 0 (some 2) 2)
       (sim-network-stack 100 (handedIn 0 100 client) ∷ sim-network-stack 100 (handedIn 0 100 client) ∷ sim-network-stack 100 (handedIn 0 100 client) ∷ [])
-      ≡ seen (yes-step ∷ yes-step ∷ yes-step ∷ []) (aggregate 100 1 client ∷ aggregate 100 1 server ∷ []) (100 ∷ 100 ∷ 100 ∷ []) false
+      ≡ seen (yes-falls 103 ∷ yes-falls 103 ∷ yes-falls 103 ∷ []) (aggregate 100 1 client ∷ aggregate 100 1 server ∷ []) (100 ∷ 100 ∷ 100 ∷ []) false
   -- window 10: an age of 9, of 10, of 11
   pub stamp-ages :
       ran (openWith 0 none 10)
       (sim-network-stack 100 (handedIn 0 100 client) ∷ sim-network-stack 109 (handedIn 0 109 client) ∷ sim-network-stack 110 (handedIn 0 110 client) ∷ sim-network-stack 111 (handedIn 0 111 client) ∷ [])
-      ≡ seen (yes-step ∷ yes-step ∷ yes-step ∷ yes-step ∷ []) [] (109 ∷ 110 ∷ 111 ∷ []) false
+      ≡ seen (yes-falls 111 ∷ yes-falls 111 ∷ yes-falls 111 ∷ yes-falls 120 ∷ []) [] (109 ∷ 110 ∷ 111 ∷ []) false
+  -- ---- when the packet count falls (document 02, M-120)
+
+  -- window 10: that stamp plus the window plus 1; an age of 10 stays, at 111 the stamp of 100 goes
+  pub falls-after-window :
+      ran (openWith 0 none 10)
+      (sim-network-stack 100 (handedIn 0 100 client) ∷ sim-network-stack 110 (handedIn 0 110 client) ∷ sim-network-stack 111 (handedIn 0 111 client) ∷ [])
+      ≡ seen (yes-falls 111 ∷ yes-falls 111 ∷ yes-falls 121 ∷ []) [] (110 ∷ 111 ∷ []) false
+  -- times that go backwards: the oldest by arrival, not the least moment
+  pub falls-by-arrival :
+      ran (openWith 0 none 10)
+      (sim-network-stack 110 (handedIn 0 110 client) ∷ sim-network-stack 50 (handedIn 0 50 client) ∷ sim-network-stack 120 (handedIn 0 120 client) ∷ sim-network-stack 121 (handedIn 0 121 client) ∷ [])
+      ≡ seen (yes-falls 121 ∷ yes-falls 121 ∷ yes-falls 121 ∷ yes-falls 131 ∷ []) [] (120 ∷ 121 ∷ []) false
+  -- each side has its own stamps, and padding is stamped too
+  pub falls-own-side :
+      ran (openWith 0 none 10)
+      (sim-network-stack 100 (handedIn 0 100 client) ∷ sim-network-stack 50 (handedIn 0 50 server) ∷ sim-network-stack 55 (flagged 0 55 server true false false) ∷ sim-network-stack 105 (flagged 0 105 client true false false) ∷ [])
+      ≡ seen (yes-falls 111 ∷ yes-falls 61 ∷ yes-falls 61 ∷ yes-falls 111 ∷ []) [] (100 ∷ 105 ∷ []) false
+  -- no other kind tells a moment, whether it answers yes or no
+  pub falls-other-kinds :
+      ran (openWith 0 none 10)
+      (sim-network-stack 50 (handedIn 0 50 client) ∷ sim-network-stack 60 (handedIn 1 60 client) ∷ sim-network-stack 60 (flagged 2 60 client true false false) ∷ sim-network-stack 60 (handedIn 3 60 client) ∷ sim-network-stack 60 (handedIn 4 60 client) ∷ sim-network-stack 60 (flagged 5 60 client true false false) ∷ sim-network-stack 60 (handedIn 6 60 client) ∷ sim-network-stack 60 (handedIn 7 60 client) ∷ sim-network-stack 60 (handedIn 8 60 client) ∷ sim-network-stack 60 (handedIn 9 60 client) ∷ [])
+      ≡ seen (yes-falls 61 ∷ no-step ∷ no-step ∷ yes-step ∷ no-step ∷ no-step ∷ no-step ∷ no-step ∷ no-step ∷ no-step ∷ []) [] (50 ∷ []) false
+  -- window 0: the stamp is too old one nanosecond later
+  pub falls-window-0 :
+      ran (openWith 0 none 0)
+      (sim-network-stack 0 (handedIn 0 0 client) ∷ sim-network-stack 0 (handedIn 0 0 client) ∷ sim-network-stack 1 (handedIn 0 1 client) ∷ [])
+      ≡ seen (yes-falls 1 ∷ yes-falls 1 ∷ yes-falls 2 ∷ []) [] (1 ∷ []) false
+  -- all stamps too old: the new one itself
+  pub falls-all-gone :
+      ran (openWith 0 none 10)
+      (sim-network-stack 100 (handedIn 0 100 client) ∷ sim-network-stack 101 (handedIn 0 101 client) ∷ sim-network-stack 1000 (handedIn 0 1000 client) ∷ [])
+      ≡ seen (yes-falls 111 ∷ yes-falls 111 ∷ yes-falls 1011 ∷ []) [] (1000 ∷ []) false
+  -- the edge of 2^62 - 1: exactly
+  pub falls-at-limit :
+      ran (openWith 0 none 10)
+      (sim-network-stack 4_611_686_018_427_387_892 (handedIn 0 0 client) ∷ [])
+      ≡ seen (yes-falls 4_611_686_018_427_387_903 ∷ []) [] (4_611_686_018_427_387_892 ∷ []) false
+  -- the edge of 2^62 - 1: one past is absent, the stamp stands and nothing is refused
+  pub falls-past-limit :
+      ran (openWith 0 none 10)
+      (sim-network-stack 4_611_686_018_427_387_893 (handedIn 0 0 client) ∷ [])
+      ≡ seen (yes-step ∷ []) [] (4_611_686_018_427_387_893 ∷ []) false
+  -- the edge of 2^62 - 1 with the longest window, and a later stamp behind one that is past it
+  pub falls-longest-window :
+      ran (openWith 0 none 1_000_000_000_000)
+      (sim-network-stack 4_611_685_018_427_387_902 (handedIn 0 0 server) ∷ sim-network-stack 4_611_685_018_427_387_903 (handedIn 0 0 client) ∷ sim-network-stack 5 (handedIn 0 5 client) ∷ [])
+      ≡ seen (yes-falls 4_611_686_018_427_387_903 ∷ yes-step ∷ yes-step ∷ []) [] (4_611_685_018_427_387_903 ∷ 5 ∷ []) false
   -- ---- number 10: each sum at 2^62 - 1 and one past it
 
   -- a base head of c plus its sum: exactly 2^62 - 1
@@ -215,7 +262,7 @@ pub record Edges : Type 0 where
   pub misreading-raw-moment :
       ran (openWith 0 (some 1) 1000)
       (sim-network-stack 0 (handedIn 0 0 client) ∷ sim-network-stack 0 (handedIn 0 0 client) ∷ pick-next 0 ∷ pick-next 1000 ∷ setBypassableBlock client 0 2000 ∷ pick-next 0 ∷ push (handedIn 0 10 client) ∷ push (flagged 0 60 client false true false) ∷ push (handedIn 1 50 client) ∷ pick-next 0 ∷ [])
-      ≡ seen (yes-step ∷ yes-step ∷ event (plain TunnelRecv 0 server 0) 3 ∷ event (plain TunnelRecv 1000 server 0) 1 ∷ done ∷ event (packet BlockingBegin 0 0 client false true false) 2 ∷ done ∷ done ∷ done ∷ event (plain NormalSent 1050 client 0) 1 ∷ []) [] (0 ∷ 0 ∷ []) true
+      ≡ seen (yes-falls 1001 ∷ yes-falls 1001 ∷ event (plain TunnelRecv 0 server 0) 3 ∷ event (plain TunnelRecv 1000 server 0) 1 ∷ done ∷ event (packet BlockingBegin 0 0 client false true false) 2 ∷ done ∷ done ∷ done ∷ event (plain NormalSent 1050 client 0) 1 ∷ []) [] (0 ∷ 0 ∷ []) true
   -- scanning for the tail with two packets waiting: the length is 1000, not 940
   pub misreading-two-packets :
       ran (openWith 0 none 1_000_000_000)
@@ -235,7 +282,7 @@ pub record Edges : Type 0 where
   pub misreading-stamp-age :
       ran (openWith 0 none 10)
       (sim-network-stack 100 (handedIn 0 100 client) ∷ sim-network-stack 110 (handedIn 0 110 client) ∷ [])
-      ≡ seen (yes-step ∷ yes-step ∷ []) [] (100 ∷ 110 ∷ []) false
+      ≡ seen (yes-falls 111 ∷ yes-falls 111 ∷ []) [] (100 ∷ 110 ∷ []) false
   -- replacing a waiting packet only while blocked: no block is needed
   pub misreading-replace :
       ran (openWith 0 none 1_000_000_000)
@@ -278,6 +325,15 @@ edges = record {
   no-extra = refl;
   some-extra = refl;
   stamp-ages = refl;
+  falls-after-window = refl;
+  falls-by-arrival = refl;
+  falls-own-side = refl;
+  falls-other-kinds = refl;
+  falls-window-0 = refl;
+  falls-all-gone = refl;
+  falls-at-limit = refl;
+  falls-past-limit = refl;
+  falls-longest-window = refl;
   sum-at-limit = refl;
   sum-past-limit = refl;
   duration-at-limit = refl;

@@ -25,7 +25,7 @@ afterSetAction s z r none = s
 afterSetAction s z r (some k) =
     withSide s (z .side) (withActions (side s (z .side)) (set (side s (z .side) .actions) (z .machine) (some (actionOf r k))))
 
--- the step, with the answer and the sums that it forms
+-- the step, with what it answers and the sums that it forms
 abbrev pub afterStep : State → ℕ → EventIn → Option Kind → Stepped
-afterStep s now r none = record { answer = false; state = s; sums = [] }
+afterStep s now r none = record { answer = false; falls = none; state = s; sums = [] }
 afterStep s now r (some k) = step s now (eventOf r k)

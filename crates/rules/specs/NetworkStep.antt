@@ -4,17 +4,19 @@ use mathlib.Core.Bool.{Bool, _&&_, false, true}
 use mathlib.Core.List.{List, [], _++_, _∷_, map, tail}
 use mathlib.Core.Option.{Option, none, some}
 use lib.ListN.{length}
-use lib.Dec.{ltb}
+use lib.Dec.{leb, ltb}
 use Rattle.rules.specs.State.{Aggregate, Event, Held, SideState, State, freePlace, inRecord, side, withFree, withSide, withStamps}
 use Rattle.rules.specs.Basics.{BlockingBegin, BlockingEnd, Kind, NormalRecv, NormalSent, PaddingRecv, PaddingSent, Side, TimerBegin, TimerEnd, TunnelRecv, TunnelSent, if_then_else_, other}
+use Rattle.rules.specs.Limits.{momentLimit}
 use Rattle.rules.specs.ChoiceHeads.{Head, waitingHead}
 use Rattle.rules.specs.Aggregates.{addAggregates, aggregatesOf, onDelayed, onReplace, testSums}
 use Rattle.rules.specs.ChoiceRound.{liftEvent}
 use Rattle.rules.specs.Queueing.{pushEvent, putEvent}
 
--- what a step gives if no sum had a limit, and the sums that it forms
+-- what a step gives if no sum had a limit: yes or no, when the packet count falls, the state left, and the sums that it forms
 pub record Stepped : Type 0 where
   pub answer : Bool
+  pub falls : Option ℕ
   pub state : State
   pub sums : List ℕ
 
@@ -25,11 +27,11 @@ packet k t d z padded bypass replace =
 
 -- the step changes nothing
 abbrev pub unmoved : State → Bool → Stepped
-unmoved s a = record { answer = a; state = s; sums = [] }
+unmoved s a = record { answer = a; falls = none; state = s; sums = [] }
 
 -- the step queues one event
 abbrev pub queueing : State → Bool → Event → Stepped
-queueing s a e = record { answer = a; state = pushEvent s e; sums = [] }
+queueing s a e = record { answer = a; falls = none; state = pushEvent s e; sums = [] }
 
 -- ---- `PaddingSent`
 
@@ -48,7 +50,7 @@ replaceBy s now h =
     let t : State = liftEvent s h in
     let x : SideState = side t (w .side) in
     let new : List Aggregate = aggregatesOf (s .settings .networkDelay) (w .side) now (onReplace x now (w .moment)) in
-    record { answer = false; state = addAggregates (putEvent t (inRecord (h .place) (letPass w))) new; sums = testSums x (x .sum) (w .moment) ++ map (λ (a : Aggregate). a .moment) new }
+    record { answer = false; falls = none; state = addAggregates (putEvent t (inRecord (h .place) (letPass w))) new; sums = testSums x (x .sum) (w .moment) ++ map (λ (a : Aggregate). a .moment) new }
 
 -- the replace flag is set, and the first waiting packet is given. Padding replaces nothing that is padding; without the bypass flag nothing changes
 abbrev pub replacing : State → ℕ → Event → Option Head → Stepped
@@ -84,6 +86,24 @@ stamp s z now =
     let w : ℕ = s .settings .window in
     withFree (withSide s z (withStamps x (stamped w now (x .stamps) (s .free)))) (tail (freeWithEvicted w now (x .stamps) (s .free)))
 
+-- the first moment at which a stamp at t "would be too old, which is that stamp plus the window plus 1"; "A moment past the limit is reported as absent
+-- and refuses nothing."
+abbrev pub tooOldFrom : ℕ → ℕ → Option ℕ
+tooOldFrom window t = if leb (t + window + 1) momentLimit then some (t + window + 1) else none
+
+-- when the packet count falls: the same of the "oldest kept stamp by arrival", which is the first
+abbrev pub countFalls : ℕ → List (Held ℕ) → Option ℕ
+countFalls window [] = none
+countFalls window (t ∷ l) = tooOldFrom window (t .value)
+
+-- "Adding a stamp must tell, beside the count," when it falls: both of the stamps that then stand, the new one with them
+pub record Window : Type 0 where
+  pub count : ℕ
+  pub falls : Option ℕ
+
+abbrev pub stampTells : ℕ → List (Held ℕ) → Window
+stampTells window l = record { count = length l; falls = countFalls window l }
+
 -- "Network rate, else queue rate, else no limit."
 abbrev pub rateOf : Option ℕ → Option ℕ → Option ℕ
 rateOf (some p) r = some p
@@ -99,12 +119,13 @@ abbrev pub reported : Event → ℕ → ℕ → ℕ → ℕ
 reported e now network reporting =
     if e .padding then e .moment + e .delay + network + reporting else max (e .moment - e .delay + network + reporting) now
 
--- a delayed packet is tested for an aggregate; "the aggregate test uses the client's sum on both sides"
+-- a delayed packet is tested for an aggregate; "the aggregate test uses the client's sum on both sides". "The network step hands this on for `TunnelSent`"
 unfoldable pub stepTunnel : State → ℕ → Event → Stepped
 stepTunnel s now e =
     let x : SideState = side s (e .side) in
     let t₀ : State = stamp s (e .side) now in
-    let extra : ℕ = extraOver (s .settings .window) (length (side t₀ (e .side) .stamps)) (rateOf (s .settings .networkRate) (s .settings .queueRate)) in
+    let told : Window = stampTells (s .settings .window) (side t₀ (e .side) .stamps) in
+    let extra : ℕ = extraOver (s .settings .window) (told .count) (rateOf (s .settings .networkRate) (s .settings .queueRate)) in
     let tested : Bool = ltb 0 extra in
     let new : List Aggregate =
     aggregatesOf (s .settings .networkDelay) (e .side) now (if tested && onDelayed x (s .client .sum) (e .moment) then some extra else none) in
@@ -112,11 +133,12 @@ stepTunnel s now e =
     let t : ℕ = reported e now (extra + s .settings .networkDelay) r in
     record {
       answer = true;
+      falls = told .falls;
       state = pushEvent (addAggregates t₀ new) (packet TunnelRecv t r (other (e .side)) (e .padding) false false);
       sums = (if tested then testSums x (s .client .sum) (e .moment) else []) ++ map (λ (a : Aggregate). a .moment) new ++ (t ∷ []);
     }
 
--- ---- the step, kind by kind: yes for `TunnelSent` and `TunnelRecv`, else no
+-- ---- the step, kind by kind: yes for `TunnelSent` and `TunnelRecv`, else no; "for other kinds it says that there is no such moment"
 
 unfoldable pub stepFor : Kind → State → ℕ → Event → Stepped
 stepFor TunnelSent s now e = stepTunnel s now e

@@ -6,13 +6,13 @@ use mathlib.Core.List.{[], _∷_, map}
 use mathlib.Core.Path.{_≡_, refl}
 use mathlib.Core.Bool.{false, true}
 use Rattle.rules.specs.Arguments.{ActionIn, Call, EventIn, pick-next, push, set-action, set-timer, sim-network-stack, clear-action, clear-timer}
-use Rattle.rules.specs.Choice.{Answer, done, no-step, nothing-left, refused, yes-step}
+use Rattle.rules.specs.Choice.{Answer, done, nothing-left, refused}
 use Rattle.rules.specs.State.{BlockOutgoing, Fixed, SendPadding, State, withEnded, withRounds, ActionKind}
 use Rattle.rules.specs.Basics.{NormalSent, Side, client, server}
 use Rattle.rules.specs.Opening.{Opening, openRefusal, opened}
 use Rattle.rules.specs.ChoiceRound.{Slot}
 use Rattle.rules.specs.Calls.{call}
-use Rattle.rules.specs.CaseStates.{handedIn, fresh, plain, queuedIn, refusedIn, rules, withAction, withTimer}
+use Rattle.rules.specs.CaseStates.{fresh, handedIn, no-step, plain, queuedIn, refusedIn, rules, withAction, withTimer, yes-falls, yes-step}
 
 -- ---- what they begin from
 
@@ -116,7 +116,7 @@ pub record TableInputs : Type 0 where
   -- the same of a step: its kinds 2, 6, 8 and 9 need the machine, its kind 10 gives 6
   pub five-step :
       map (λ (k : ℕ). told fresh (sim-network-stack 5 (eventFor k 5 0 2))) (0 ∷ 1 ∷ 2 ∷ 3 ∷ 4 ∷ 5 ∷ 6 ∷ 7 ∷ 8 ∷ 9 ∷ 10 ∷ [])
-      ≡ yes-step ∷ no-step ∷ refused 5 0 ∷ yes-step ∷ no-step ∷ no-step ∷ refused 5 0 ∷ no-step ∷ refused 5 0 ∷ refused 5 0 ∷ refused 6 0 ∷ []
+      ≡ yes-falls 6 ∷ no-step ∷ refused 5 0 ∷ yes-step ∷ no-step ∷ no-step ∷ refused 5 0 ∷ no-step ∷ refused 5 0 ∷ refused 5 0 ∷ refused 6 0 ∷ []
   pub five-cancel : told tiny (set-action (slot client 0) (actionFor 0 0 0)) ≡ refused 5 0
   -- 6: `Cancel`; only `SendPadding` and `BlockOutgoing` can be set
   pub six : map (λ (k : ℕ). told fresh (set-action (slot client 0) (actionFor k 5 0))) (0 ∷ 1 ∷ 2 ∷ 3 ∷ []) ≡ refused 6 0 ∷ done ∷ done ∷ refused 6 0 ∷ []
@@ -140,12 +140,12 @@ pub record TableInputs : Type 0 where
   pub seven-step-delay :
       map (λ (d : ℕ). told fresh (sim-network-stack 5 (eventFor 4 5 d 0))) (2_000_000_000_000 ∷ 2_000_000_000_001 ∷ []) ≡ no-step ∷ refused 7 0 ∷ []
   -- 8: moment 5, delay 6. Delay 5 is not above it, and such an event may be pushed
-  pub eight : map (λ (d : ℕ). told fresh (sim-network-stack 5 (eventFor 0 5 d 0))) (5 ∷ 6 ∷ []) ≡ yes-step ∷ refused 8 0 ∷ []
+  pub eight : map (λ (d : ℕ). told fresh (sim-network-stack 5 (eventFor 0 5 d 0))) (5 ∷ 6 ∷ []) ≡ yes-falls 6 ∷ refused 8 0 ∷ []
   pub eight-pushed : told fresh (push (eventFor 0 5 6 0)) ≡ done
   -- nor is it given for another kind, or for padding
   pub eight-others :
       (map (λ (k : ℕ). told fresh (sim-network-stack 5 (eventFor k 5 6 0))) (1 ∷ 2 ∷ 3 ∷ []) ≡ no-step ∷ no-step ∷ yes-step ∷ [])
-      × (told fresh (sim-network-stack 5 (record { kind = 0; moment = 5; delay = 6; side = client; padding = true; bypass = false; replace = false; machine = 0 })) ≡ yes-step)
+      × (told fresh (sim-network-stack 5 (record { kind = 0; moment = 5; delay = 6; side = client; padding = true; bypass = false; replace = false; machine = 0 })) ≡ yes-falls 6)
   -- 9: R = 1, second push
   pub nine : (call tiny (push (eventFor 1 5 0 0)) ≡ record { answer = done; state = tinyFull }) × (call tinyFull (push (eventFor 1 5 0 0)) ≡ refusedIn 9 tinyFull)
   -- R = 1: a timer reserves the record, an action is for four; a step queues its event, a packet's needs a stamp too

@@ -10,7 +10,7 @@ use lib.Dec.{ltb}
 use lib.ListN.{length}
 use borrow.Author.Tests.{ltb-true, ltb-false}
 use Rattle.rules.specs.State.{State}
-use Rattle.rules.specs.Choice.{Answer, Called, done, event, nothing-left, yes-step, no-step, refused, settle, rounds, choose}
+use Rattle.rules.specs.Choice.{Answer, Called, done, event, nothing-left, step-made, refused, settle, rounds, choose}
 use Rattle.rules.specs.ChoiceRound.{RoundOutcome, next, taken, nothing, passed, round}
 use Rattle.rules.specs.Arguments.{Call, pick-next}
 use Rattle.rules.specs.Calls.{call, work, unlessRefused}
@@ -30,8 +30,7 @@ abbrev isDone : Answer → ℕ
 isDone done = 1
 isDone (event e k) = 0
 isDone (nothing-left k) = 0
-isDone yes-step = 0
-isDone no-step = 0
+isDone (step-made a f) = 0
 isDone (refused n k) = 0
 
 settled : (k : ℕ) (on : State → Called) (o : RoundOutcome) → ((t : State) → isDone (on t .answer) ≡ 0) → isDone (settle k on o .answer) ≡ 0

@@ -1,6 +1,6 @@
 -- `calls::row::sim_network_stack` meets its contract. Assumes nothing.
 use mathlib.Core.Path.{_∙_}
-use Rattle.calls.proofs.RowLaws.{step-made, event-words}
+use Rattle.calls.proofs.RowLaws.{stepped-made, event-words}
 use borrow.Author.Needs.{needs}
 use Rattle.calls.proofs.row.sim_network_stack.Statement.{statement}
 use Rattle.calls.proofs.row.sim_network_stack.Tie as tie
@@ -45,7 +45,7 @@ same-length : tie.Need-same-length
 same-length c = search needs
 
 returns : tie.Need-returns
-returns c = step-made (c .before .before .before .before .before .before .before .before .before .before .before .before .before .before .before .before .before .before .args .block .now) _ _ _ _ (c .before .before .before .sim-network-stack-on .result) _ _ (c .before .before .before .before .before .before .before .before .before .before .before .before .before .before .before .word .ensures) (c .before .before .before .before .before .before .event-from .ensures ∙ event-words _ _ _ _ _ _ _ _ _ _ _ _ _ _ _ _ (c .before .before .before .before .before .before .before .before .before .before .before .before .before .before .word2 .ensures) (c .before .before .before .before .before .before .before .before .before .before .before .before .before .word3 .ensures) (c .before .before .before .before .before .before .before .before .before .before .before .before .word4 .ensures) (c .before .before .before .before .before .before .before .before .before .before .before .word5 .ensures) (c .before .before .before .before .before .before .before .before .before .before .word6 .ensures) (c .before .before .before .before .before .before .before .before .before .word7 .ensures) (c .before .before .before .before .before .before .before .before .word8 .ensures) (c .before .before .before .before .before .before .before .word9 .ensures)) (c .before .before .before .sim-network-stack-on .ensures) (c .step-row .ensures)
+returns c = stepped-made (c .before .before .before .before .before .before .before .before .before .before .before .before .before .before .before .before .before .before .args .block .now) _ _ _ _ (c .before .before .before .sim-network-stack-on .result) _ _ (c .before .before .before .before .before .before .before .before .before .before .before .before .before .before .before .word .ensures) (c .before .before .before .before .before .before .event-from .ensures ∙ event-words _ _ _ _ _ _ _ _ _ _ _ _ _ _ _ _ (c .before .before .before .before .before .before .before .before .before .before .before .before .before .before .word2 .ensures) (c .before .before .before .before .before .before .before .before .before .before .before .before .before .word3 .ensures) (c .before .before .before .before .before .before .before .before .before .before .before .before .word4 .ensures) (c .before .before .before .before .before .before .before .before .before .before .before .word5 .ensures) (c .before .before .before .before .before .before .before .before .before .before .word6 .ensures) (c .before .before .before .before .before .before .before .before .before .word7 .ensures) (c .before .before .before .before .before .before .before .before .word8 .ensures) (c .before .before .before .before .before .before .before .word9 .ensures)) (c .before .before .before .sim-network-stack-on .ensures) (c .step-row .ensures)
 
 pub sim-network-stack-spec : {M : Type 1} → statement M
 sim-network-stack-spec =

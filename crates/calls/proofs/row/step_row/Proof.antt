@@ -13,8 +13,14 @@ step-words-requires c κs = search needs
 array-read-t7 : tie.Need-array-read-t7
 array-read-t7 c = search needs
 
+array-read-t10 : tie.Need-array-read-t10
+array-read-t10 c = search needs
+
+array-read-t13 : tie.Need-array-read-t13
+array-read-t13 c = search needs
+
 returns : tie.Need-returns
 returns c = search step-laid
 
 pub step-row-spec : {M : Type 1} → statement M
-step-row-spec = tie.close (tie.spec step-number-requires step-words-requires array-read-t7 returns)
+step-row-spec = tie.close (tie.spec step-number-requires step-words-requires array-read-t7 array-read-t10 array-read-t13 returns)

@@ -46,6 +46,12 @@ array-read-t37 c = search needs
 array-read-t40 : tie.Need-array-read-t40
 array-read-t40 c = search needs
 
+array-read-t43 : tie.Need-array-read-t43
+array-read-t43 c = search needs
+
+array-read-t46 : tie.Need-array-read-t46
+array-read-t46 c = search needs
+
 returns : tie.Need-returns
 returns c = search turn-laid
 
@@ -67,4 +73,6 @@ turn-row-spec =
     array-read-t34
     array-read-t37
     array-read-t40
+    array-read-t43
+    array-read-t46
     returns)

@@ -1,5 +1,5 @@
 -- `queue::records::next_of` meets its contract. Assumes nothing.
-use Rattle.queue.proofs.LentLaws.{lent-in, lent-next}
+use Rattle.queue.proofs.LentLaws.{lent-in, lent-word}
 use lib.Dec.{lit<}
 use borrow.Author.Needs.{needs}
 use Rattle.queue.proofs.records.next_of.Statement.{statement}
@@ -18,7 +18,7 @@ get-requires : tie.Need-get-requires
 get-requires c κs = (search lent-in, lit< tt)
 
 returns : tie.Need-returns
-returns c = search lent-next
+returns c = search lent-word
 
 pub next-of-spec : {M : Type 1} → statement M
 next-of-spec = tie.close (tie.spec sub-get part-get-start part-get-end get-requires returns)
