@@ -5,7 +5,8 @@ LAYOUT.md and RULINGS.md, written here, and accepted states against the Rust.
   damaged.py FORECAST ORACLE SEED BLOCKS
 
 Each block is one that a random list left, damaged in a few words, or zeros,
-ones or noise. Then come `show`, a call, `show` and `words`."""
+ones or noise. Then come `show`, a call, `show` and `words`. What a step answers
+is reckoned here as well, from the stamps (document 02, M-120)."""
 import random, subprocess, sys
 import generate
 from compare import for_rust
@@ -14,6 +15,7 @@ TOP = 2**62 - 1
 MAX = 2**64 - 1
 L12 = 10**12
 KINDS_M = (2, 6, 8, 9)
+LISTS = [kind for kind in generate.KINDS if kind != "falls"]  # without the kind that came with M-120, so that a seed draws the blocks that it always drew
 
 
 def size_ok(n):
@@ -174,6 +176,18 @@ def predicted(w, call):
     return 0
 
 
+def step_answer(shown, call):
+    """What a step that is not refused answers to a state that `show` lists so."""
+    _, time, kind, _, _, side, *_ = call.split()
+    if kind != "0":
+        return "yes falls -" if kind == "3" else "no falls -"
+    time, window = int(time), int(shown[0].split()[4])
+    stamps = [int(line.split()[2]) for line in shown if line.startswith(f"stamp {side}")]
+    oldest = next((t for t in stamps if time - t <= window), time)  # the first by arrival that is not too old; else the new one
+    falls = oldest + window + 1
+    return f"yes falls {falls if falls <= TOP else '-'}"
+
+
 def spare(w):
     return [w[i] for i in [*range(18, 24), 48, 49, *range(50, 64), *range(192, 256)]]
 
@@ -189,7 +203,7 @@ def run(program, text):
 
 
 def bases(forecast, rnd, seed):
-    kind = rnd.choice(list(generate.KINDS))
+    kind = rnd.choice(LISTS)
     R = rnd.choice((1, 2, 3, 4, 6, 8, 13, 21))
     lines = [l for l in generate.generate(kind, seed, 120) if not l.startswith(("lend", "word"))]
     lines = [f"lend {256 + 4 * R}"] + lines
@@ -254,7 +268,7 @@ def main():
     while len(tests) < blocks:
         base = bases(forecast, rnd, rnd.randrange(10**9))
         tests += [(w, some_call(rnd, w)) for w in (damaged(rnd, base) for _ in range(25))]
-    counts = {}
+    counts, packets, absent = {}, 0, 0
     text = "".join(f"lend {len(w)}\n" + "".join(f"word {i} {v}\n" for i, v in enumerate(w)) + f"show\n{c}\nshow\nwords\n" for w, c in tests)
     out = iter(run(forecast, text))
     results, load = [], []
@@ -297,6 +311,12 @@ def main():
                         assert got == "ok", (line, got)
                 theirs, state = next(rust), listed(rust)
                 nofree = lambda s: [x for x in s if not x.startswith("free")]
+                if name == "sim_network_stack" and not answer.startswith("refused"):
+                    due = step_answer(before, c)
+                    if answer != due:
+                        wrong.append(f"expected {due}")
+                    packets += c.split()[2] == "0"
+                    absent += (c.split()[2], due) == ("0", "yes falls -")
                 if accepted(left) and spare(left) != (spare(w) if name != "open" else [0] * len(spare(w))):
                     wrong.append("words without a meaning")
                 if not accepted(left) or show(left) != after:
@@ -325,6 +345,7 @@ def main():
                 print("DIFFERENCE", wrong, "\n call", c, "\n answer", answer, "\n before", before, "\n after", after)
                 print(f" block: lend {len(w)} " + " ".join(f"{i}:{v}" for i, v in enumerate(w) if v))
     print(f"seed {seed}: {len(tests)} blocks, {bad} differences:", ", ".join(f"{k}: {n}" for k, n in sorted(counts.items())))
+    print(f"{packets} steps stamped a packet, {absent} of them without a moment at which the count falls")
     sys.exit(1 if bad else 0)
 
 

@@ -62,7 +62,7 @@ def call(line):
 def answer(line):
     w = line.split()
     if w[0] == 'ok': return 'done'
-    if w[0] == 'yes': return 'yes-step'
+    if w[0] == 'yes': return 'yes-step' if w[2] == '-' else f'yes-falls {number(w[2])}'
     if w[0] == 'no': return 'no-step'
     if w[0] == 'nothing': return f'nothing-left {w[2]}'
     if w[0] == 'refused': return f'refused {w[1]} {w[2]}'

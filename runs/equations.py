@@ -51,7 +51,7 @@ OUTSIDE = "Rattle.rules.specs."
 TYPES = """Event EventIn Action ActionIn Aggregate Held Queues Fixed SideState Settings State Called Answer Slot Side Kind
     ActionKind""".split()
 VALUES = """client server TunnelSent NormalSent PaddingSent TunnelRecv NormalRecv PaddingRecv BlockingBegin BlockingEnd TimerBegin
-    TimerEnd SendPadding BlockOutgoing done event nothing-left yes-step no-step refused push set-action clear-action set-timer
+    TimerEnd SendPadding BlockOutgoing done event nothing-left step-made refused push set-action clear-action set-timer
     clear-timer pick-next sim-network-stack call""".split()
 
 KINDS = "TunnelSent NormalSent PaddingSent TunnelRecv NormalRecv PaddingRecv BlockingBegin BlockingEnd TimerBegin TimerEnd".split()
@@ -225,7 +225,9 @@ def answer_text(answer):
         return f"(nothing-left {rest[1]})"
     if word == "refused":
         return f"(refused {rest[0]} {rest[1]})"
-    return {"ok": "done", "yes": "yes-step", "no": "no-step"}[word]
+    if word in ("yes", "no"):
+        return f"(step-made {'true' if word == 'yes' else 'false'} {optional(rest[1])})"
+    return {"ok": "done"}[word]
 
 
 # ---- equations
@@ -271,7 +273,7 @@ def tests_for_aggregates(line, state, answer):
 
 def equation(kind, lines, before, answer, after, source):
     """The equation for the last of the lines, or None where it has none."""
-    if not re.match(r"event|nothing|yes|no$|ok|refused 10", answer) or before.startswith("not accepted"):
+    if not re.match(r"event|nothing|(yes|no) falls|ok|refused 10", answer) or before.startswith("not accepted"):
         return None
     first, left = State(before), State(after)
     if first.ended == "1" or refused_by_the_table(lines[-1], first) or max(first.used(), left.used()) > MOST_RECORDS:

@@ -588,7 +588,28 @@ def refusals(l, calls):
             l.call("pick_next", moment)
 
 
-KINDS = {f.__name__: f for f in (small, blocks, windows, buffers, sums, raw, uneven, replace, ties, rates, tails, top, finished, refusals)}
+def falls(l, calls):
+    """when the packet count falls: steps at that moment and one off, times that go back, the moment at 2^62 - 1 and past it"""
+    while len(l.lines) < calls:
+        window = l.one_of(0, 1, 10, 1000, 10**12)
+        l.open(l.one_of(0, 0, 0, 2), (l.one_of("-", "-", 1, 2), "-"), window, small=0.1)
+        start = l.one_of(0, 100, window, TOP - window - 1, TOP - window - 1, TOP) + l.near(2)
+        stamps = {CLIENT: [], SERVER: []}
+        for _ in range(4 + l.below(9)):
+            side = l.side()
+            kept = stamps[side]
+            old = l.one_of(kept[0], kept[0], kept[-1]) if kept else start
+            time = clamp(l.one_of(start, old + window, old + window + 1, old + window + 1, old - 1, old) + l.one_of(0, 0, l.near(2)))
+            kind = 0 if l.chance(0.85) else l.below(10)
+            l.step(time, kind, l.below(9), side, (l.flag(), 0, 0))
+            if kind == 0:
+                while kept and time - kept[0] > window:
+                    kept.pop(0)
+                kept.append(time)
+        l.choose(time, l.below(4))
+
+
+KINDS = {f.__name__: f for f in (small, blocks, windows, buffers, sums, raw, uneven, replace, ties, rates, tails, top, finished, refusals, falls)}
 
 
 def generate(kind, seed, calls):

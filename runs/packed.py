@@ -5,10 +5,11 @@ States are drawn, or left by random lists, and laid out in records in any order,
 its packed words are those of the reading here, and packing leaves its own words; laid out anew it packs alike; packed again it
 stays; changed in one thing it packs otherwise; a list of calls answers on the packed words as on its own, `show` and all.
 Damaged words are refused by the table. Then random lists, with the state packed and taken over at random places: the same
-answers. Prints how many of each; exit status 1 where something differs."""
+answers. What a step answers is reckoned from the stamps shown before it. Prints how many of each; exit status 1 where something
+differs."""
 import random, subprocess, sys
 import generate
-from damaged import KINDS_M, L12, TOP, accepted, bases, damaged, show, size_ok, some_call
+from damaged import KINDS_M, L12, LISTS, TOP, accepted, bases, damaged, show, size_ok, some_call, step_answer
 
 EVENTS = (1, 2, 3, 4, 6, 7, 8, 9)
 STAMPS = (5, 10)
@@ -365,32 +366,48 @@ def answered(program, lines):
         yield line, answer
 
 
+def reckoned(pairs, lines):
+    """How many steps of these pairs of line and answer, `show` before each, were not refused. They answer what damaged.py reckons."""
+    steps, shown = 0, []
+    for line, answer in pairs:
+        if line == "show":
+            shown = answer
+        elif line.startswith("sim_network_stack") and not answer[0].startswith("refused"):
+            steps += 1
+            if answer != [step_answer(shown, line)]:
+                wrong(f"{line} on {shown}: {answer}, due {step_answer(shown, line)}", lines)
+    return steps
+
+
 def on_both(program, rnd, states):
-    """Calls on a state, `show` after each, then the same on its packed words."""
+    """Calls on a state, `show` before and after each, then the same on its packed words."""
     lines, halves = [], []
     for _ in range(states):
         w = drawn(rnd).scattered(rnd)
         calls = [line for _ in range(12) for line in (some_call(rnd, w), "show")]
-        lines += [f"lend {len(w)}", *(f"word {i} {v}" for i, v in enumerate(w)), f"lend_second {len(w)}", "pack", "# original", *calls, "# taken over", "take_second",
-                  "# packed", *calls, "# next"]
+        lines += [f"lend {len(w)}", *(f"word {i} {v}" for i, v in enumerate(w)), f"lend_second {len(w)}", "pack", "# original", "show", *calls, "# taken over",
+                  "take_second", "# packed", "show", *calls, "# next"]
     for line, answer in answered(program, lines):
         if line.startswith("#"):
             halves.append([])
         elif halves:
-            halves[-1].append(answer)
+            halves[-1].append((line, answer))
+    steps = 0
     for i in range(0, len(halves), 4):
         if halves[i] != halves[i + 2]:
             wrong(f"answers after packing: {halves[i]} {halves[i + 2]}", lines)
-    return 12 * states
+        steps += reckoned(halves[i], lines)
+    return 12 * states, steps
 
 
 def taken_over(program, rnd, lists):
     """Random lists as they are, and with the state packed and taken over at random places: the same answers."""
-    packings = 0
+    packings = steps = 0
     for _ in range(lists):
-        kind = rnd.choice(list(generate.KINDS))
+        kind = rnd.choice(LISTS)
         lines = [line for line in generate.generate(kind, rnd.randrange(10**9), 300) if not line.startswith("word")]
         plain = list(answered(program, [text for line in lines for text in (line, "show")]))
+        steps += reckoned(plain, lines)
         ours, lent = [], 8192
         for line, answer in plain:
             ours.append(line)
@@ -404,7 +421,7 @@ def taken_over(program, rnd, lists):
         refused = [pair for pair in both if pair[0].startswith(added_lines) and pair[1] != ["ok"]]
         if refused or [pair for pair in both if not pair[0].startswith(added_lines)] != plain:
             wrong(f"kind {kind}: other answers where the state was packed {refused}", ours)
-    return packings
+    return packings, steps
 
 
 def main():
@@ -418,10 +435,11 @@ def main():
     if missing and states >= 40 * len(DIFFERENCES):
         sys.exit(f"no state was found with another {', '.join(missing)}")
     anew, refusals = counts.pop("laid out anew"), {n: counts.pop(n, 0) for n in ("refused 1", "refused 2")}
-    calls = on_both(program, rnd, states // 4)
-    packings = taken_over(program, rnd, max(1, states // 40))
+    calls, steps = on_both(program, rnd, states // 4)
+    packings, others = taken_over(program, rnd, max(1, states // 40))
     print(f"seed {seed}: {anew} states packed, each laid out twice; {sum(counts.values())} with one difference, of {len(counts)} kinds; {calls} calls on both; "
-          f"{packings} packings within lists; refusals {refusals['refused 1']} of 1, {refusals['refused 2']} of 2; 0 differences")
+          f"{packings} packings within lists; {steps + others} steps reckoned; "
+          f"refusals {refusals['refused 1']} of 1, {refusals['refused 2']} of 2; 0 differences")
 
 
 if __name__ == "__main__":

@@ -7,7 +7,7 @@ lists of forecast lend 8,192 words, on which these calls are never refused for w
 import pathlib, subprocess, sys
 
 here = pathlib.Path(__file__).resolve().parent
-KINDS = "small blocks windows buffers sums raw uneven replace ties rates tails top finished".split()
+KINDS = "small blocks windows buffers sums raw uneven replace ties rates tails top finished falls".split()
 
 
 def run(*command, text=None):

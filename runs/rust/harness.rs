@@ -8,6 +8,7 @@
 //!   `refused 10 K` with the state after the last finished round, marked ended.
 //!   The sums of the sides and the round total are looked at after each choice.
 //! - `load LINE` puts a line of `show` into the state; `load settings` opens.
+//! - When the packet count falls is read off the original's queue of stamps.
 //! - `lend`, `word` and `words` have no counterpart and are passed over; records
 //!   neither, so `show` writes `free -`. `unsupported` answers a call that only a
 //!   refusal can answer, `panic TEXT` any other panic of the original.
@@ -547,7 +548,29 @@ fn step(core: &mut Option<Core>, mut words: Words) -> Option<Answer> {
     };
     let time = moment(time);
     let yes = sim_network_stack(&e, &mut c.sq, state, recipient, &mut c.network, &time);
-    Some(if yes { "yes" } else { "no" }.to_string())
+    let falls = match e.event {
+        TriggerEvent::TunnelSent if e.client => count_falls(&c.network.client_window),
+        TriggerEvent::TunnelSent => count_falls(&c.network.server_window),
+        _ => None,
+    };
+    let falls = falls.map_or("-".to_string(), |t| number(t).to_string());
+    Some(format!("{} falls {falls}", if yes { "yes" } else { "no" }))
+}
+
+/// The first moment at which `add` would drop the oldest stamp of the queue, read
+/// off the queue and tried with `add` itself on a window of that stamp alone.
+/// `None` past the last moment.
+fn count_falls(window: &WindowCount) -> Option<Instant> {
+    let oldest = *window.timestamps.front().unwrap();
+    let last_kept = oldest.checked_add(window.window)?;
+    let falls = last_kept.checked_add(Duration::from_nanos(1))?;
+    let count_at = |time: Instant| {
+        let mut alone = WindowCount::new(window.window);
+        alone.timestamps.push_back(oldest);
+        alone.add(&time)
+    };
+    assert_eq!((count_at(last_kept), count_at(falls)), (2, 1));
+    Some(falls)
 }
 
 /// A line of `show` put into the state; `settings` opens.
