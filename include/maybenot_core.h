@@ -53,8 +53,8 @@ extern "C" {
 #define MAYBENOT_CORE_MAX_RATE UINT64_C(4294967295)              /* packets a window; the least is 1 */
 
 /*
- * Stack to keep free for a call, in bytes. Measured, not proved: on x86-64 a list of calls takes 1,568 bytes, a choice 1,488,
- * a step 880, packing 776 and every other call less than 500, arguments, return address and the calling function's own frame
+ * Stack to keep free for a call, in bytes. Measured, not proved: on x86-64 a list of calls takes 1,648 bytes, a choice 1,488,
+ * a step 896, packing 776 and every other call less than 500, arguments, return address and the calling function's own frame
  * included. That is the deepest of 110,000 random calls on a painted stack (runs/stack.c, which runs/bindings runs and holds
  * to this number). No function of the archive calls itself.
  */
@@ -123,8 +123,24 @@ enum {
     MAYBENOT_CORE_ANSWER_MACHINE = 9  /* its machine, 0 where its kind has none */
 };
 
-/* The words of a step's answer. */
-#define MAYBENOT_CORE_STEP_WORDS 1u
+/* The words of a step's answer, and what stands where. */
+#define MAYBENOT_CORE_STEP_WORDS 3u
+enum {
+    MAYBENOT_CORE_STEP_ACTIVITY = 0, /* 1 where there is network activity, which is so for kinds 0 and 3, else 0 */
+    MAYBENOT_CORE_STEP_HAS_FALL = 1, /* 1 where there is a moment at which the packet count falls, else 0 */
+    MAYBENOT_CORE_STEP_FALLS = 2     /* that moment, or 0 */
+};
+
+/*
+ * The moment at which the packet count falls says how long the rate limit still bites. A step of kind 0 adds its time
+ * to the stamps of its side, drops the oldest ones by arrival while their age is above the window, and counts the
+ * rest. It tells the first moment at which the oldest stamp kept would be too old: that stamp plus the window plus 1.
+ * From then on the next packet of this side would find that stamp gone, so the count falls. Nothing more is said:
+ * other stamps may be too old by then as well.
+ *
+ * A step of another kind tells no moment. A moment above MAYBENOT_CORE_MAX_MOMENT is told as none, and nothing is
+ * refused for it.
+ */
 
 /*
  * Whether the words are an accepted state, one that the calls work on. Only reads. Words of a wrong length are none; a
@@ -222,11 +238,11 @@ uint64_t maybenot_core_pick_next(uint64_t *block, size_t words, uint64_t time, u
  *
  *   time             the present moment; at most MAYBENOT_CORE_MAX_MOMENT
  *   kind .. machine  the event, as for maybenot_core_push_sim
- *   out              one word of the caller, aligned to 8 bytes, not NULL, apart from the block
+ *   out              three words of the caller, aligned to 8 bytes, not NULL, apart from the block
  *   out_words        MAYBENOT_CORE_STEP_WORDS
  *
- * Written to `out`: 1 where there is network activity, which is so for kinds 0 and 3, else 0; 0 for a refusal. Where
- * out_words is not one, `out` is left as it was, word for word, and the call is made all the same.
+ * Written to `out`: the three words of MAYBENOT_CORE_STEP_ACTIVITY and so on, above; for a refusal three zeros. Where
+ * out_words is not three, `out` is left as it was, word for word, and the call is made all the same.
  */
 uint64_t maybenot_core_sim_network_stack(uint64_t *block, size_t words, uint64_t time,
                                          uint64_t kind, uint64_t moment, uint64_t delay, uint64_t side,
@@ -255,8 +271,9 @@ uint64_t maybenot_core_pack(const uint64_t *block, size_t words, uint64_t *secon
 
 /* ---- a list of calls */
 
-/* The words of a row, which is one call of a list, and of its answer. */
+/* The words of a row, which is one call of a list, and those of its answer. */
 #define MAYBENOT_CORE_ROW_WORDS 12u
+#define MAYBENOT_CORE_ROW_ANSWER_WORDS 16u
 
 /*
  * Codes of a row, its first word. The arguments of the call follow in the order of its function above, without block and
@@ -275,9 +292,11 @@ enum {
 
 /* What stands where in an answer. */
 enum {
-    MAYBENOT_CORE_ROW_NUMBER = 0,   /* the number of the refusal, 0 for none */
-    MAYBENOT_CORE_ROW_OUT = 1,      /* from here on: what the call writes to `out`; of a turn what its choice writes */
-    MAYBENOT_CORE_ROW_ACTIVITY = 11 /* of a turn: 1 where its step found network activity, else 0 */
+    MAYBENOT_CORE_ROW_NUMBER = 0,    /* the number of the refusal, 0 for none */
+    MAYBENOT_CORE_ROW_OUT = 1,       /* from here on: what the call writes to `out`; of a turn what its choice writes */
+    MAYBENOT_CORE_ROW_ACTIVITY = 11, /* of a turn, what its step writes: whether there is network activity, */
+    MAYBENOT_CORE_ROW_HAS_FALL = 12, /* whether there is a moment at which the packet count falls, */
+    MAYBENOT_CORE_ROW_FALLS = 13     /* and that moment */
 };
 
 /* The bit of `stop` for the events of a kind, 0 to 9, on a side. */
@@ -288,24 +307,26 @@ enum {
  *
  *   calls           rows of MAYBENOT_CORE_ROW_WORDS words; aligned to 8 bytes, not NULL, apart from the block; only read
  *   calls_words     the number of its words; those after the last whole row are ignored
- *   answers         room for as many answers of MAYBENOT_CORE_ROW_WORDS words; aligned to 8 bytes, not NULL, apart from the block
- *                   and from the rows
+ *   answers         room for as many answers of MAYBENOT_CORE_ROW_ANSWER_WORDS words; aligned to 8 bytes, not NULL,
+ *                   apart from the block and from the rows
  *   answers_words   the number of its words; those after the last whole answer are left as they were
  *
  * Returned: how many rows were made. They are the first ones, and their answers the first ones. The list stops before a row
  * whose code is none of the above, where whole rows or whole answers run out, and after a turn as said below. Answers of
  * rows that were not made are left as they were.
  *
- * An answer: the number of the refusal or 0; then what the function writes to `out`, ten words of a choice, one of a step,
- * none of the others; then zeros. A refused call does not end the list. Where the words are too short or no accepted state,
- * every row that is made is answered with 1 or 2, and the block is left as it was. After a 10 the rows that follow are made and get 3.
+ * An answer: the number of the refusal or 0; then what the function writes to `out`, ten words of a choice, three of a
+ * step, none of the others; then zeros. A refused call does not end the list. Where the words are too short or no
+ * accepted state, every row that is made is answered with 1 or 2, and the block is left as it was. After a 10 the rows
+ * that follow are made and get 3.
  *
- * A TURN is a choice and, where it chose an event, that event's network step at the event's own moment. The choice is made
- * at the later of `time` and the moment of the last event that a choice or a turn of this same list chose, so that a run is
- * one row written many times. Its answer: the number; the ten words of the choice; MAYBENOT_CORE_ROW_ACTIVITY. The number is
- * that of the choice's refusal, or, where the choice chose an event, of the step's. The list ends after a turn that is
- * refused, that says nothing left, or whose event is in `stop` (MAYBENOT_CORE_STOP; other bits are ignored). That turn is
- * counted. The list that goes on from there begins at the moment of the last event: hand it in as `time`.
+ * A TURN is a choice and, where it chose an event, that event's network step at the event's own moment. The choice is
+ * made at the later of `time` and the moment of the last event that a choice or a turn of this same list chose, so
+ * that a run is one row written many times. Its answer: the number; the ten words of the choice; the three of the
+ * step, 0 where there is none; zeros. The number is that of the choice's refusal, or, where the choice chose an event,
+ * of the step's. The list ends after a turn that is refused, that says nothing left, or whose event is in `stop`
+ * (MAYBENOT_CORE_STOP; other bits are ignored). That turn is counted. The list that goes on from there begins at the
+ * moment of the last event: hand it in as `time`.
  */
 uint64_t maybenot_core_calls(uint64_t *block, size_t words, const uint64_t *calls, size_t calls_words,
                              uint64_t *answers, size_t answers_words);

@@ -29,7 +29,7 @@ static uint64_t block[LARGE];
 static uint64_t second[LARGE];
 static uint64_t out[MAYBENOT_CORE_ANSWER_WORDS];
 static uint64_t rows[ROWS][MAYBENOT_CORE_ROW_WORDS];
-static uint64_t answers[ROWS][MAYBENOT_CORE_ROW_WORDS];
+static uint64_t answers[ROWS][MAYBENOT_CORE_ROW_ANSWER_WORDS];
 static size_t deepest[CALLS];
 static size_t deepest_accepted;
 static size_t done[CALLS];
@@ -85,7 +85,8 @@ static uint64_t list(size_t words)
         rows[i][0] = chance(8);
         arguments(rows[i][0], rows[i] + 1);
     }
-    made = maybenot_core_calls(block, words, rows[0], ROWS * MAYBENOT_CORE_ROW_WORDS, answers[0], ROWS * MAYBENOT_CORE_ROW_WORDS);
+    made = maybenot_core_calls(block, words, rows[0], ROWS * MAYBENOT_CORE_ROW_WORDS, answers[0],
+                               ROWS * MAYBENOT_CORE_ROW_ANSWER_WORDS);
     return made == 0 ? 0 : answers[made - 1][MAYBENOT_CORE_ROW_NUMBER];
 }
 

@@ -11,7 +11,7 @@
 //! standard heap, which does not keep the order among equals, and nothing that counts its rounds; its lists are those of
 //! the other build, and its own events are not compared.
 
-use super::rows::{Opening, PICK, Row, STEP, TURN, Theirs, opened, row};
+use super::rows::{AnswerRow, Opening, PICK, Row, STEP, TURN, Theirs, opened, row};
 use super::*;
 use crate::block::Block;
 use maybenot_core::sys;
@@ -42,7 +42,7 @@ fn length(phase: &Phase, batch: usize) -> usize {
 // ---- ours
 
 /// Makes a list; how many rows were made.
-fn list(w: &mut [u64], rows: &[Row], answers: &mut [Row]) -> u64 {
+fn list(w: &mut [u64], rows: &[Row], answers: &mut [AnswerRow]) -> u64 {
     // SAFETY: pointers and lengths are those of three slices that do not overlap.
     unsafe {
         sys::maybenot_core_calls(
@@ -51,7 +51,7 @@ fn list(w: &mut [u64], rows: &[Row], answers: &mut [Row]) -> u64 {
             rows.as_ptr().cast(),
             12 * rows.len(),
             answers.as_mut_ptr().cast(),
-            12 * answers.len(),
+            16 * answers.len(),
         )
     }
 }
@@ -81,7 +81,7 @@ fn block_before(phase: &Phase) -> Block {
         )
     };
     assert_eq!(number, 0, "opening was refused");
-    let mut answers = vec![[0; 12]; phase.before.len()];
+    let mut answers = vec![[0; 16]; phase.before.len()];
     let made = list(w, &phase.before, &mut answers);
     assert_eq!(made as usize, phase.before.len(), "not all was made before");
     assert!(
@@ -92,7 +92,7 @@ fn block_before(phase: &Phase) -> Block {
 }
 
 /// Every row is made and answered as by the original.
-fn compare(w: &mut [u64], phase: &Phase, batch: usize, answers: &mut [Row]) {
+fn compare(w: &mut [u64], phase: &Phase, batch: usize, answers: &mut [AnswerRow]) {
     let length = length(phase, batch);
     let due = phase.answers[..length].chunks(batch.min(length));
     for (at, (rows, due)) in phase.rows[..length]
@@ -100,7 +100,7 @@ fn compare(w: &mut [u64], phase: &Phase, batch: usize, answers: &mut [Row]) {
         .zip(due)
         .enumerate()
     {
-        answers.fill([7; 12]);
+        answers.fill([7; 16]);
         let made = list(w, rows, answers);
         assert_eq!(
             made as usize,
@@ -119,7 +119,7 @@ fn compare(w: &mut [u64], phase: &Phase, batch: usize, answers: &mut [Row]) {
 }
 
 /// Nanoseconds for the rows.
-fn time_ours(w: &mut [u64], rows: &[Row], batch: usize, answers: &mut [Row]) -> f64 {
+fn time_ours(w: &mut [u64], rows: &[Row], batch: usize, answers: &mut [AnswerRow]) -> f64 {
     let start = Clock::now();
     for rows in rows.chunks(batch) {
         black_box(list(w, rows, answers));
@@ -172,7 +172,7 @@ fn by_turns(phase: &Phase) -> Phase {
         rows.push(if turned { row(TURN, &[r[1], 0]) } else { r });
         answers.push(a);
         if turned && a[1] != 0 {
-            answers.last_mut().unwrap()[11] = phase.answers[at + 1][1];
+            answers.last_mut().unwrap()[11..14].copy_from_slice(&phase.answers[at + 1][1..4]);
             at += 1;
         }
         at += 1;
@@ -194,7 +194,7 @@ fn row_of(phase: &Phase, rounds: usize) {
     let mut work = Block::new(block.words().len());
     let lengths = BATCHES.map(|batch| length(phase, batch));
     let batches = BATCHES.map(|batch| batch.min(phase.rows.len()));
-    let mut answers = batches.map(|batch| vec![[0; 12]; batch]);
+    let mut answers = batches.map(|batch| vec![[0; 16]; batch]);
     for (batch, room) in batches.iter().zip(&mut answers) {
         work.words_mut().copy_from_slice(block.words());
         compare(work.words_mut(), phase, *batch, room);

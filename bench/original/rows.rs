@@ -2,8 +2,9 @@
 
 use super::*;
 
-/// A row, or its answer, as `maybenot_core_calls` takes and gives them.
+/// A row and its answer, as `maybenot_core_calls` takes and gives them.
 pub type Row = [u64; 12];
+pub type AnswerRow = [u64; 16];
 
 pub const PUSH: u64 = 0;
 pub const SET_ACTION: u64 = 1;
@@ -168,21 +169,42 @@ fn words_of(e: &SimEvent) -> [u64; 8] {
     ]
 }
 
-/// The answer that the list call must give to a row where the original made it in so many rounds.
-pub fn answer(code: u64, (chosen, yes): (Option<SimEvent>, bool), rounds: u64) -> Row {
-    let mut answer = [0; 12];
+/// The words that a step on the event of these eight is answered with, after the original has answered yes or no. When the
+/// packet count falls is read off its stamps.
+pub fn step_words(c: &Core, e: &[u64], yes: bool) -> [u64; 3] {
+    let (sent, client) = (e[0] == 0, e[3] != 0);
+    let stamps = if client {
+        &c.network.client_window
+    } else {
+        &c.network.server_window
+    };
+    let falls = sent.then(|| count_falls(stamps)).flatten();
+    let moment = falls.map_or(0, |t| u64::try_from(number(t)).expect("from 0 on"));
+    [yes as u64, falls.is_some() as u64, moment]
+}
+
+/// The answer that the list call must give to a row, after the original has made it in so many rounds.
+pub fn answer(
+    c: &Core,
+    row: &Row,
+    (chosen, yes): (Option<SimEvent>, bool),
+    rounds: u64,
+) -> AnswerRow {
+    let mut answer = [0; 16];
+    let code = row[0];
+    if code == STEP {
+        answer[1..4].copy_from_slice(&step_words(c, &row[2..10], yes));
+    }
     if code == PICK || code == TURN {
         answer[1] = chosen.is_some() as u64;
         answer[2] = rounds;
-        if let Some(e) = chosen {
-            answer[3..11].copy_from_slice(&words_of(&e));
+    }
+    if let Some(e) = chosen {
+        let event = words_of(&e);
+        answer[3..11].copy_from_slice(&event);
+        if code == TURN {
+            answer[11..14].copy_from_slice(&step_words(c, &event, yes));
         }
-    }
-    if code == STEP {
-        answer[1] = yes as u64;
-    }
-    if code == TURN {
-        answer[11] = yes as u64;
     }
     answer
 }

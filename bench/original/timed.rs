@@ -2,6 +2,7 @@
 //! the library, on the same states, in one run. A child module of the harness of
 //! runs/rust, so that it can load a state and call the private functions.
 
+use super::rows::step_words;
 use super::*;
 use crate::block::{self, Plan, START};
 use crate::calls::{self, Event};
@@ -113,14 +114,14 @@ fn list(w: &mut [u64], pairs: usize) -> Vec<(Made, Answered)> {
         }
         let event: Event = out[2..10].try_into().unwrap();
         now = event[1];
-        let mut yes = [0];
+        let mut told = [0; 3];
         assert_eq!(
-            calls::step(w, now, &event, &mut yes),
+            calls::step(w, now, &event, &mut told),
             0,
             "a step was refused"
         );
         let mut out = [0; 10];
-        out[0] = yes[0];
+        out[..3].copy_from_slice(&told);
         list.push((Made::Step(now, event), out));
     }
     list
@@ -192,7 +193,9 @@ fn compare(core: &mut Core, list: &[(Made, Answered)]) {
         log::ROUNDS.set(0);
         let (event, yes) = run_theirs(core, call);
         match made {
-            Made::Step(..) => assert_eq!(yes as u64, answered[0], "a step"),
+            Made::Step(_, e) => {
+                assert_eq!(step_words(core, e, yes), answered[..3], "a step");
+            }
             Made::Pick(_) => {
                 assert_eq!(event.is_some() as u64, answered[0], "a choice");
                 assert_eq!(log::ROUNDS.get(), answered[1], "rounds");
@@ -213,7 +216,7 @@ fn time_ours(w: &mut [u64], list: &[(Made, Answered)]) -> f64 {
                 std::hint::black_box(calls::pick(w, *now, &mut out));
             }
             Made::Step(time, e) => {
-                let mut out = [0];
+                let mut out = [0; 3];
                 std::hint::black_box(calls::step(w, *time, e, &mut out));
             }
         }

@@ -2,8 +2,8 @@
 //! and one in its steady state with four machines a side, which pad and block at random.
 
 use super::rows::{
-    CLEAR_ACTION, CLEAR_TIMER, Opening, PICK, PUSH, Row, SET_ACTION, SET_TIMER, STEP, Theirs,
-    answer, opened, row,
+    AnswerRow, CLEAR_ACTION, CLEAR_TIMER, Opening, PICK, PUSH, Row, SET_ACTION, SET_TIMER, STEP,
+    Theirs, answer, opened, row,
 };
 use super::*;
 use crate::block::Random;
@@ -23,7 +23,7 @@ pub struct Phase {
     /// made before, and not timed
     pub before: Vec<Row>,
     pub rows: Vec<Row>,
-    pub answers: Vec<Row>,
+    pub answers: Vec<AnswerRow>,
 }
 
 /// A line that is driven: the original's state, and the calls that made it.
@@ -32,7 +32,7 @@ struct Line {
     random: Random,
     records: usize,
     rows: Vec<Row>,
-    answers: Vec<Row>,
+    answers: Vec<AnswerRow>,
     now: u64,
     /// the moment of the last packet pushed, and the mean time to the next one
     pushed: u64,
@@ -72,7 +72,7 @@ impl Line {
             "a block of {} records would have no room",
             self.records
         );
-        let answer = answer(code, done, log::ROUNDS.get());
+        let answer = answer(&self.core, &row, done, log::ROUNDS.get());
         self.rows.push(row);
         self.answers.push(answer);
         (code == PICK && answer[1] != 0).then(|| answer[3..11].try_into().unwrap())

@@ -35,7 +35,7 @@ pub fn pick(w: &mut [u64], time: u64, out: &mut [u64; 10]) -> u64 {
     unsafe { sys::maybenot_core_pick_next(w.as_mut_ptr(), w.len(), time, out.as_mut_ptr(), 10) }
 }
 
-pub fn step(w: &mut [u64], time: u64, e: &Event, out: &mut [u64; 1]) -> u64 {
+pub fn step(w: &mut [u64], time: u64, e: &Event, out: &mut [u64; 3]) -> u64 {
     let [kind, moment, delay, side, padding, bypass, replace, machine] = *e;
     // SAFETY: pointers and lengths are those of two slices that do not overlap.
     unsafe {
@@ -52,7 +52,7 @@ pub fn step(w: &mut [u64], time: u64, e: &Event, out: &mut [u64; 1]) -> u64 {
             replace,
             machine,
             out.as_mut_ptr(),
-            1,
+            3,
         )
     }
 }
@@ -60,6 +60,11 @@ pub fn step(w: &mut [u64], time: u64, e: &Event, out: &mut [u64; 1]) -> u64 {
 pub fn pack(w: &[u64], second: &mut [u64]) -> u64 {
     // SAFETY: pointers and lengths are those of two slices that do not overlap.
     unsafe { sys::maybenot_core_pack(w.as_ptr(), w.len(), second.as_mut_ptr(), second.len()) }
+}
+
+/// The number and the words of an answer, added up.
+fn added_up(number: u64, out: &[u64]) -> u64 {
+    out.iter().fold(number, |a, b| a.wrapping_add(*b))
 }
 
 /// What is timed beside the walk.
@@ -152,19 +157,19 @@ impl Call {
     /// Makes the call; the answer's words are added up. Packing writes into the second block.
     #[inline(always)]
     pub fn make(self, w: &mut [u64], second: &mut [u64], e: &Event) -> u64 {
-        let mut out = [0; 10];
         match self {
             Call::Accepted => accepted(w) as u64,
             Call::Push => push(w, e),
             Call::Pack => pack(w, second),
             Call::Step => {
-                let mut yes = [0];
-                let n = step(w, START + 500, e, &mut yes);
-                n + yes[0]
+                let mut out = [0; 3];
+                let n = step(w, START + 500, e, &mut out);
+                added_up(n, &out)
             }
             _ => {
+                let mut out = [0; 10];
                 let n = pick(w, START, &mut out);
-                n + out.iter().fold(0, |a: u64, b| a.wrapping_add(*b))
+                added_up(n, &out)
             }
         }
     }

@@ -56,15 +56,19 @@ static void step(const uint64_t *event)
 {
     uint64_t moment = event[MAYBENOT_CORE_ANSWER_MOMENT];
     uint64_t side = event[MAYBENOT_CORE_ANSWER_SIDE];
-    uint64_t activity = 0;
+    uint64_t told[MAYBENOT_CORE_STEP_WORDS];
     want("sim_network_stack",
          maybenot_core_sim_network_stack(block, WORDS, moment, event[MAYBENOT_CORE_ANSWER_KIND], moment,
                                          event[MAYBENOT_CORE_ANSWER_DELAY], side, event[MAYBENOT_CORE_ANSWER_PADDING],
                                          event[MAYBENOT_CORE_ANSWER_BYPASS], event[MAYBENOT_CORE_ANSWER_REPLACE],
-                                         event[MAYBENOT_CORE_ANSWER_MACHINE], &activity, MAYBENOT_CORE_STEP_WORDS));
-    printf("%4" PRIu64 " ns  %s  %-13s  rounds %" PRIu64 "%s\n", moment, side ? "client" : "server",
+                                         event[MAYBENOT_CORE_ANSWER_MACHINE], told, MAYBENOT_CORE_STEP_WORDS));
+    printf("%4" PRIu64 " ns  %s  %-13s  rounds %" PRIu64 "%s", moment, side ? "client" : "server",
            KINDS[event[MAYBENOT_CORE_ANSWER_KIND]], event[MAYBENOT_CORE_ANSWER_ROUNDS],
-           activity ? "  on the network" : "");
+           told[MAYBENOT_CORE_STEP_ACTIVITY] ? "  on the network" : "");
+    if (told[MAYBENOT_CORE_STEP_HAS_FALL]) {
+        printf(", count falls at %" PRIu64 " ns", told[MAYBENOT_CORE_STEP_FALLS]);
+    }
+    printf("\n");
 }
 
 int main(void)

@@ -32,13 +32,13 @@ static const char *const KINDS[10] = {
 /* The state, the rows and their answers: no heap. */
 static uint64_t block[WORDS];
 static uint64_t rows[TURNS][MAYBENOT_CORE_ROW_WORDS];
-static uint64_t answers[TURNS][MAYBENOT_CORE_ROW_WORDS];
+static uint64_t answers[TURNS][MAYBENOT_CORE_ROW_ANSWER_WORDS];
 
 /* Makes the first rows as one list; how many were made. Ends the program where one of them was refused. */
 static size_t make(size_t count)
 {
-    size_t words = count * MAYBENOT_CORE_ROW_WORDS;
-    size_t made = (size_t)maybenot_core_calls(block, WORDS, rows[0], words, answers[0], words);
+    size_t made = (size_t)maybenot_core_calls(block, WORDS, rows[0], count * MAYBENOT_CORE_ROW_WORDS, answers[0],
+                                              count * MAYBENOT_CORE_ROW_ANSWER_WORDS);
     size_t i;
     for (i = 0; i < made; i++) {
         if (answers[i][MAYBENOT_CORE_ROW_NUMBER] != MAYBENOT_CORE_OK) {
@@ -82,9 +82,13 @@ static size_t run(void)
 static void print(const uint64_t *answer)
 {
     const uint64_t *event = answer + MAYBENOT_CORE_ROW_OUT;
-    printf("%4" PRIu64 " ns  %s  %-13s  rounds %" PRIu64 "%s\n", event[MAYBENOT_CORE_ANSWER_MOMENT],
+    printf("%4" PRIu64 " ns  %s  %-13s  rounds %" PRIu64 "%s", event[MAYBENOT_CORE_ANSWER_MOMENT],
            event[MAYBENOT_CORE_ANSWER_SIDE] ? "client" : "server", KINDS[event[MAYBENOT_CORE_ANSWER_KIND]],
            event[MAYBENOT_CORE_ANSWER_ROUNDS], answer[MAYBENOT_CORE_ROW_ACTIVITY] ? "  on the network" : "");
+    if (answer[MAYBENOT_CORE_ROW_HAS_FALL]) {
+        printf(", count falls at %" PRIu64 " ns", answer[MAYBENOT_CORE_ROW_FALLS]);
+    }
+    printf("\n");
 }
 
 int main(void)

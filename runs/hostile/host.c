@@ -56,7 +56,7 @@ static word make(word *b, size_t n, const struct call *c, struct place *out) {
 
 /* Whether `out` holds what is due, or is as it was where it has another length or nothing is due. */
 static int out_right(enum what what, const struct place *out, const word *due) {
-  size_t length = what == PICK ? 10 : what == STEP ? 1 : 0;
+  size_t length = what == PICK ? 10 : what == STEP ? 3 : 0;
   if (length && out->length == length) return !memcmp(out->lent, due, 8 * length);
   for (size_t i = 0; i < out->length; i++)
     if (out->lent[i] != OUT_BEFORE) return 0;
@@ -100,7 +100,7 @@ static const char *once(struct lot *l, struct place *out, struct call *c, word *
   memcpy(l->left, l->before, 8 * l->length);
   lend(&l->place, l->length, below(2));
   if (l->length) memcpy(l->place.lent, l->before, 8 * l->length);
-  lend(out, below(10) ? (c->what == STEP ? 1 : 10) : below(12), below(2));
+  lend(out, below(10) ? (c->what == STEP ? 3 : 10) : below(12), below(2));
   for (size_t i = 0; i < out->length; i++) out->lent[i] = OUT_BEFORE;
   *number = make(l->place.lent, l->length, c, out);
   l->calls++;

@@ -14,6 +14,7 @@
 
 #define MOST_ROWS 400
 #define MOST_WORDS (MAYBENOT_CORE_ROW_WORDS * (MOST_ROWS + 2))
+#define MOST_ANSWERS (MAYBENOT_CORE_ROW_ANSWER_WORDS * (MOST_ROWS + 2))
 
 /* ---- lengths */
 
@@ -36,7 +37,7 @@ static struct lot lots[] = {
 
 /* What is lent beside the block, and copies of it. */
 static struct place rows, answers;
-static word rows_before[MOST_WORDS], due[MOST_WORDS];
+static word rows_before[MOST_WORDS], due[MOST_ANSWERS];
 
 static void prepare(struct lot *l) {
   l->live = calloc(l->length + 1, 8);
@@ -89,13 +90,14 @@ static void draw_row(word *row, const word *w, size_t n, int turns, int bad) {
 
 /* Rows and room for answers: lengths of every remainder, room mostly for all. */
 static void draw_list(const word *w, size_t n) {
+  const size_t row = MAYBENOT_CORE_ROW_WORDS, answer = MAYBENOT_CORE_ROW_ANSWER_WORDS;
   size_t count = below(20) ? below(24) : below(MOST_ROWS + 1), room = count;
   int turns = !below(3), bad = !below(4);
   if (!below(6)) room = below(count + 2);
-  lend(&rows, MAYBENOT_CORE_ROW_WORDS * count + (below(2) ? 0 : below(MAYBENOT_CORE_ROW_WORDS)), below(2));
-  lend(&answers, MAYBENOT_CORE_ROW_WORDS * room + (below(2) ? 0 : below(MAYBENOT_CORE_ROW_WORDS)), below(2));
-  for (size_t i = 0; i < count; i++) draw_row(rows.lent + MAYBENOT_CORE_ROW_WORDS * i, w, n, turns, bad);
-  for (size_t i = MAYBENOT_CORE_ROW_WORDS * count; i < rows.length; i++) rows.lent[i] = below(8);
+  lend(&rows, row * count + (below(2) ? 0 : below(row)), below(2));
+  lend(&answers, answer * room + (below(2) ? 0 : below(answer)), below(2));
+  for (size_t i = 0; i < count; i++) draw_row(rows.lent + row * i, w, n, turns, bad);
+  for (size_t i = row * count; i < rows.length; i++) rows.lent[i] = below(8);
   for (size_t i = 0; i < answers.length; i++) answers.lent[i] = due[i] = OUT_BEFORE;
   if (rows.length) memcpy(rows_before, rows.lent, 8 * rows.length);
 }
@@ -123,7 +125,7 @@ static void count(struct lot *l, int sound, word made) {
   l->asked += rows.length / MAYBENOT_CORE_ROW_WORDS;
   l->made += made;
   for (word i = 0; i < made; i++) {
-    word number = answers.lent[MAYBENOT_CORE_ROW_WORDS * i];
+    word number = answers.lent[MAYBENOT_CORE_ROW_ANSWER_WORDS * i];
     if (number < 11) l->answers[number]++;
     l->turns += rows_before[MAYBENOT_CORE_ROW_WORDS * i] == MAYBENOT_CORE_CALL_TURN;
   }
@@ -180,7 +182,7 @@ int main(int count, char **words) {
   seed(strtoul(words[2], 0, 10));
   for (size_t i = 0; i < LOTS; i++) prepare(&lots[i]);
   rows = place_for(MOST_WORDS);
-  answers = place_for(MOST_WORDS);
+  answers = place_for(MOST_ANSWERS);
   for (unsigned long i = 0; i < lists; i++) {
     struct lot *l = &lots[drawn(LOTS, weight_of)];
     const char *fault = once(l);

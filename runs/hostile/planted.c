@@ -52,11 +52,24 @@ word __wrap_maybenot_core_pick_next(word *b, size_t n, word t, word *o, size_t l
   return number;
 }
 
+/* The least moment of the side's stamps, plus the window plus 1. */
+static word least_falls(const word *b, word s) {
+  word least = MAX;
+  for (word at = b[24 + 2 * (s ? 5 : 10)]; at; at = b[RECORD(at)])
+    if (b[RECORD(at) + 1] < least) least = b[RECORD(at) + 1];
+  return least + b[3] + 1;
+}
+
 word __wrap_maybenot_core_sim_network_stack(word *b, size_t n, word t, word k, word m, word d, word s, word p, word y, word r, word i, word *o, size_t l) {
   word number = __real_maybenot_core_sim_network_stack(b, n, t, k, m, d, s, p, y, r, i, o, l);
-  if (FAULT == 15 && number == 10) b[17]++;                          /* a step's 10 changes more than the ended mark */
-  if (FAULT == 16 && !number && l == 1 && now_and_then()) o[0] ^= 1; /* yes for no */
-  if (FAULT == 17 && number == 9) return 10;                         /* 10 goes before 9 */
+  int made = !number && l == 3, told = made && o[1];
+  if (FAULT == 15 && number == 10) b[17]++;                           /* a step's 10 changes more than the ended mark */
+  if (FAULT == 16 && made && now_and_then()) o[0] ^= 1;               /* yes for no */
+  if (FAULT == 17 && number == 9) return 10;                          /* 10 goes before 9 */
   if (FAULT == 18 && number == 8) return 7;
+  if (FAULT == 19 && told) o[2]--;                                    /* the moment one nanosecond early */
+  if (FAULT == 20 && told) o[2] = least_falls(b, s);                  /* the least moment, not the oldest by arrival */
+  if (FAULT == 21 && made && !k && !told) o[1] = 1, o[2] = TOP + 1;   /* a moment past the limit is told */
+  if (FAULT == 22 && l == 1 && now_and_then()) o[0] = 1;              /* an `out` of one word is written */
   return number;
 }

@@ -31,7 +31,7 @@ int size_ok(size_t n);
 int accepted_by_the_page(const word *w, size_t n);
 word reserved_by_the_page(const word *w);
 /* The verdict on a call. left holds a copy of w and becomes the words that stay;
- * out becomes the ten words of a choice or the one of a step. */
+ * out becomes the ten words of a choice or the three of a step. */
 struct verdict verdict(const word *w, size_t n, const struct call *c, word *left, word *out);
 /* Equal but for what free records hold. */
 int same_words(const word *a, const word *b, size_t n);

@@ -57,7 +57,7 @@ void queue(word *w, word kind, word moment, word delay, int server, int padding,
 
 struct step {
   int server, passes, aggregates, taken_over;
-  word evicted, extra, arrival, length, takes;
+  word evicted, extra, arrival, length, takes, falls;
 };
 
 word since(word t, word u) { return t > u ? t - u : 0; }
@@ -86,9 +86,17 @@ static void test_aggregate(const word *w, struct step *s, word time, word moment
   if (s->server) s->passes |= time + since(w[0], length) > TOP;
 }
 
+/* "the first moment at which its oldest kept stamp by arrival would be too old, which is that stamp plus the window
+ * plus 1" (document 02, M-120). `kept` is the first stamp that is not evicted, 0 where the new one alone is left. */
+static word falls(const word *w, const struct call *c, word kept) {
+  word oldest = kept ? w[RECORD(kept) + 1] : c->time;
+  return oldest + w[3] + 1;
+}
+
 static void plan_tunnel_sent(const word *w, const struct call *c, struct step *s) {
   word at = w[24 + 2 * (5 + 5 * s->server)], kept = w[25 + 2 * (5 + 5 * s->server)];
   for (; at && since(c->time, w[RECORD(at) + 1]) > w[3]; at = w[RECORD(at)]) s->evicted++;
+  s->falls = falls(w, c, at);
   kept = kept - s->evicted + 1;
   word limit = w[1] ? w[1] : w[2];
   if (limit && kept > limit) s->extra = w[3] / limit * (kept - limit);
@@ -148,7 +156,7 @@ static void do_padding_sent(word *w, const struct call *c, const struct step *s)
   if (s->aggregates) queue_aggregates(w, s, c->time);
 }
 
-/* The one word of the answer goes to out. */
+/* The three words of the answer go to out, which holds zeros. "A moment past the limit is reported as absent". */
 struct verdict step_verdict(const word *w, const struct call *c, word *left, word *out) {
   struct step s = {.server = !c->side};
   if (c->kind == 0) plan_tunnel_sent(w, c, &s);
@@ -164,5 +172,6 @@ struct verdict step_verdict(const word *w, const struct call *c, word *left, wor
   if (c->kind == 2) do_padding_sent(left, c, &s);
   if (c->kind == 3) queue(left, c->padding ? 5 : 4, c->moment, c->delay, s.server, c->padding != 0, 0, 0, 0);
   out[0] = c->kind == 0 || c->kind == 3;
+  if (c->kind == 0 && s.falls <= TOP) out[1] = 1, out[2] = s.falls;
   return (struct verdict){0, 1};
 }

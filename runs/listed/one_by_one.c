@@ -30,7 +30,7 @@ static uint64_t choose(struct list *l, uint64_t time, uint64_t *out)
     return number;
 }
 
-/* The step of the event in the eight words `e`. */
+/* The step of the event in the eight words `e`. Its three words go to `out`; the number is returned. */
 static uint64_t step(struct list *l, uint64_t time, const uint64_t *e, uint64_t *out)
 {
     return maybenot_core_sim_network_stack(l->block, l->words, time, e[0], e[1], e[2], e[3], e[4], e[5], e[6], e[7], out,
@@ -61,7 +61,7 @@ static bool make(struct list *l, const uint64_t *row, uint64_t *answer)
     const uint64_t *a = row + 1;
     uint64_t *b = l->block;
     size_t n = l->words;
-    memset(answer, 0, MAYBENOT_CORE_ROW_WORDS * sizeof *answer);
+    memset(answer, 0, MAYBENOT_CORE_ROW_ANSWER_WORDS * sizeof *answer);
     switch (row[0]) {
     case MAYBENOT_CORE_CALL_PUSH:
         answer[0] = maybenot_core_push_sim(b, n, a[0], a[1], a[2], a[3], a[4], a[5], a[6], a[7]);
@@ -93,11 +93,11 @@ uint64_t calls_one_by_one(uint64_t *block, size_t words, const uint64_t *calls, 
 {
     struct list l = {block, words, 0};
     size_t rows = calls_words / MAYBENOT_CORE_ROW_WORDS;
-    size_t room = answers_words / MAYBENOT_CORE_ROW_WORDS;
+    size_t room = answers_words / MAYBENOT_CORE_ROW_ANSWER_WORDS;
     size_t made = 0;
     bool goes_on = true;
     while (goes_on && made < rows && made < room && calls[made * MAYBENOT_CORE_ROW_WORDS] <= MAYBENOT_CORE_CALL_TURN) {
-        goes_on = make(&l, calls + made * MAYBENOT_CORE_ROW_WORDS, answers + made * MAYBENOT_CORE_ROW_WORDS);
+        goes_on = make(&l, calls + made * MAYBENOT_CORE_ROW_WORDS, answers + made * MAYBENOT_CORE_ROW_ANSWER_WORDS);
         made++;
     }
     return made;

@@ -1,16 +1,25 @@
 //! What the calls of a list answer.
 
-use crate::choice::{choice_of, Choice, ANSWER_WORDS};
+use crate::choice::{choice_of, Choice, CHOICE_WORDS};
 use crate::event::SimEvent;
 use crate::refusal::{told, Refusal};
-use crate::row::{Row, PICK_NEXT, ROW_WORDS, SIM_NETWORK_STACK, TURN};
+use crate::row::{Row, PICK_NEXT, SIM_NETWORK_STACK, TURN};
+use crate::step::{step_of, Step};
+use std::array::from_fn;
 use std::iter::Zip;
 use std::slice::Iter;
+
+/// The words of the answer of a row.
+pub const ANSWER_WORDS: usize = 16;
+
+/// Where an answer holds what the call writes, and where that of a turn, behind its choice, what its step writes.
+const OUT: usize = 1;
+const STEP_OF_TURN: usize = OUT + CHOICE_WORDS;
 
 /// Room for the answer of a row.
 #[derive(Clone, Copy, Debug, Default, PartialEq, Eq, Hash)]
 #[repr(transparent)]
-pub struct AnswerRow(pub [u64; ROW_WORDS]);
+pub struct AnswerRow(pub [u64; ANSWER_WORDS]);
 
 impl AnswerRow {
     /// The number of the refusal.
@@ -20,9 +29,12 @@ impl AnswerRow {
 
     /// The answer of a choice, or of a turn's.
     fn choice(&self) -> Choice {
-        let mut out = [0; ANSWER_WORDS];
-        out.copy_from_slice(&self.0[1..=ANSWER_WORDS]);
-        choice_of(&out)
+        choice_of(&from_fn(|i| self.0[OUT + i]))
+    }
+
+    /// The answer of a step whose words begin here.
+    fn step(&self, from: usize) -> Result<Step, Refusal> {
+        told(self.number(), 0).map(|()| step_of(&from_fn(|i| self.0[from + i])))
     }
 
     /// The answer of a turn.
@@ -32,10 +44,9 @@ impl AnswerRow {
             let choice = told(self.number(), choice.rounds()).map(|()| choice);
             return Turn { choice, step: None };
         }
-        let step = told(self.number(), 0).map(|()| self.0[ROW_WORDS - 1] != 0);
         Turn {
             choice: Ok(choice),
-            step: Some(step),
+            step: Some(self.step(STEP_OF_TURN)),
         }
     }
 
@@ -46,7 +57,7 @@ impl AnswerRow {
                 let choice = self.choice();
                 Answer::Choice(told(self.number(), choice.rounds()).map(|()| choice))
             }
-            SIM_NETWORK_STACK => Answer::Step(told(self.number(), 0).map(|()| self.0[1] != 0)),
+            SIM_NETWORK_STACK => Answer::Step(self.step(OUT)),
             TURN => Answer::Turn(self.turn()),
             _ => Answer::Done(told(self.number(), 0)),
         }
@@ -60,8 +71,8 @@ pub enum Answer {
     Done(Result<(), Refusal>),
     /// Of a choice.
     Choice(Result<Choice, Refusal>),
-    /// Of a network step: whether there was network activity.
-    Step(Result<bool, Refusal>),
+    /// Of a network step.
+    Step(Result<Step, Refusal>),
     /// Of a turn.
     Turn(Turn),
 }
@@ -90,8 +101,8 @@ impl Answer {
 pub struct Turn {
     /// The choice.
     pub choice: Result<Choice, Refusal>,
-    /// The step: whether there was network activity. `None` where no event was chosen.
-    pub step: Option<Result<bool, Refusal>>,
+    /// The step. `None` where no event was chosen.
+    pub step: Option<Result<Step, Refusal>>,
 }
 
 impl Turn {

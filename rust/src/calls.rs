@@ -1,10 +1,11 @@
 //! The calls. Each lends its block to the archive and turns the number that comes back into an answer.
 
 use crate::block::Core;
-use crate::choice::{choice_of, Choice, ANSWER_WORDS};
+use crate::choice::{choice_of, Choice, CHOICE_WORDS};
 use crate::event::{Action, Side, SimEvent};
 use crate::opening::Opening;
 use crate::refusal::{told, Refusal};
+use crate::step::{step_of, Step, STEP_WORDS};
 use crate::sys;
 
 impl Core<'_> {
@@ -169,7 +170,7 @@ impl Core<'_> {
     /// # Ok::<(), maybenot_core::Refusal>(())
     /// ```
     pub fn pick_next(&mut self, now: u64) -> Result<Choice, Refusal> {
-        let mut out = [0; ANSWER_WORDS];
+        let mut out = [0; CHOICE_WORDS];
         let (block, words) = self.lend();
         // SAFETY: `lend` gives a block that is aligned, not null and borrowed for this call alone; `out` is a variable.
         let number =
@@ -179,20 +180,21 @@ impl Core<'_> {
         Ok(choice)
     }
 
-    /// Makes the network step on an event, at a time in nanoseconds, and tells whether there was network activity: a
-    /// packet that enters or leaves the tunnel. Gives 1, 2, 3, 5, 6, 7, 8, 9 or 10.
+    /// Makes the network step on an event, at a time in nanoseconds. Tells whether there was network activity and, of a
+    /// packet that enters the tunnel, when the packet count falls. Gives 1, 2, 3, 5, 6, 7, 8, 9 or 10.
     ///
     /// ```
     /// use maybenot_core::{Core, Kind, Opening, Side, SimEvent};
     ///
-    /// let mut core = Core::with_records(4, &Opening { network_delay: 20, ..Opening::default() })?;
-    /// assert!(core.sim_network_stack(100, &SimEvent::new(Kind::TUNNEL_SENT, Side::Client, 100))?);
+    /// let mut core = Core::with_records(4, &Opening { network_delay: 20, window: 10, ..Opening::default() })?;
+    /// let step = core.sim_network_stack(100, &SimEvent::new(Kind::TUNNEL_SENT, Side::Client, 100))?;
+    /// assert_eq!((step.active, step.falls), (true, Some(111)));
     /// let received = core.pick_next(100)?.event();
     /// assert_eq!(received, Some(SimEvent::new(Kind::TUNNEL_RECV, Side::Server, 120)));
     /// # Ok::<(), maybenot_core::Refusal>(())
     /// ```
-    pub fn sim_network_stack(&mut self, time: u64, event: &SimEvent) -> Result<bool, Refusal> {
-        let mut out = [0; 1];
+    pub fn sim_network_stack(&mut self, time: u64, event: &SimEvent) -> Result<Step, Refusal> {
+        let mut out = [0; STEP_WORDS];
         let (block, words) = self.lend();
         // SAFETY: `lend` gives a block that is aligned, not null and borrowed for this call alone; `out` is a variable.
         let number = unsafe {
@@ -213,6 +215,6 @@ impl Core<'_> {
             )
         };
         told(number, 0)?;
-        Ok(out[0] != 0)
+        Ok(step_of(&out))
     }
 }

@@ -3,7 +3,7 @@
 use crate::event::{Kind, Side, SimEvent};
 
 /// The words of a choice's answer as they cross.
-pub(crate) const ANSWER_WORDS: usize = 10;
+pub(crate) const CHOICE_WORDS: usize = 10;
 
 /// What a choice answers.
 #[derive(Clone, Copy, Debug, PartialEq, Eq, Hash)]
@@ -54,7 +54,7 @@ impl Choice {
 }
 
 /// The choice that these words are the answer of, where it was not refused; its rounds where it was.
-pub(crate) fn choice_of(out: &[u64; ANSWER_WORDS]) -> Choice {
+pub(crate) fn choice_of(out: &[u64; CHOICE_WORDS]) -> Choice {
     let [chosen, rounds, kind, moment, delay, side, padding, bypass, replace, machine] = *out;
     if chosen == 0 {
         return Choice::Nothing { rounds };

@@ -13,6 +13,9 @@
 //! Every call tests the whole block first, so its time grows with R. A list of calls tests it once: [`Core::batch`] and
 //! [`Core::calls`] make any calls as one list, [`Core::run_until`] and [`Core::turns`] make choices and steps by turns.
 //!
+//! The step of a packet that enters the tunnel tells when the packet count of its side falls ([`Step::falls`]): how long
+//! the rate limit still bites.
+//!
 //! [`Core::pack`] writes the packed form of a state, in which equal forecasts have equal words; [`same_forecast`] tells
 //! by it whether two blocks hold the same forecast.
 //!
@@ -30,16 +33,16 @@
 //! let mut seen = Vec::new();
 //! while let Choice::Event { event, .. } = core.pick_next(now)? {
 //!     now = event.moment;
-//!     core.sim_network_stack(now, &event)?;
-//!     seen.push((event.kind, event.side, event.moment));
+//!     let step = core.sim_network_stack(now, &event)?;
+//!     seen.push((event.kind, event.side, event.moment, step.active));
 //! }
 //! assert_eq!(
 //!     seen,
 //!     [
-//!         (Kind::NORMAL_SENT, Side::Client, 100),
-//!         (Kind::TUNNEL_SENT, Side::Client, 100),
-//!         (Kind::TUNNEL_RECV, Side::Server, 120),
-//!         (Kind::NORMAL_RECV, Side::Server, 120),
+//!         (Kind::NORMAL_SENT, Side::Client, 100, false),
+//!         (Kind::TUNNEL_SENT, Side::Client, 100, true),
+//!         (Kind::TUNNEL_RECV, Side::Server, 120, true),
+//!         (Kind::NORMAL_RECV, Side::Server, 120, false),
 //!     ]
 //! );
 //! # Ok::<(), maybenot_core::Refusal>(())
@@ -82,9 +85,10 @@ mod opening;
 mod packed;
 mod refusal;
 mod row;
+mod step;
 pub mod sys;
 
-pub use answers::{Answer, AnswerRow, Answers, Turn, Turns};
+pub use answers::{Answer, AnswerRow, Answers, Turn, Turns, ANSWER_WORDS};
 pub use block::{accepted, Core};
 pub use choice::Choice;
 pub use event::{Action, ActionKind, Kind, Side, SimEvent};
@@ -92,6 +96,7 @@ pub use opening::{Opening, SideOpening};
 pub use packed::{pack, same_forecast};
 pub use refusal::Refusal;
 pub use row::{Call, Row, Stop, ROW_WORDS};
+pub use step::Step;
 
 /// The largest number of records that a block may have.
 pub const MAX_RECORDS: usize = 65_535;

@@ -1,6 +1,6 @@
 //! A list of calls: many calls on one block, which is tested once.
 
-use crate::answers::{Answer, AnswerRow, Answers, Turn, Turns};
+use crate::answers::{Answer, AnswerRow, Answers, Turn, Turns, ANSWER_WORDS};
 use crate::block::Core;
 use crate::event::SimEvent;
 use crate::refusal::Refusal;
@@ -42,7 +42,8 @@ impl Core<'_> {
     fn make(&mut self, rows: &[Row], answers: &mut [AnswerRow]) -> usize {
         let (block, words) = self.lend();
         // SAFETY: `lend` gives a block that is aligned, not null and borrowed for this call alone. Rows and answers are
-        // slices of arrays of ROW_WORDS words each (`repr(transparent)`), the answers borrowed for this call alone.
+        // slices of arrays of ROW_WORDS and ANSWER_WORDS words each (`repr(transparent)`), the answers borrowed for this
+        // call alone.
         let made = unsafe {
             sys::maybenot_core_calls(
                 block,
@@ -50,7 +51,7 @@ impl Core<'_> {
                 rows.as_ptr().cast(),
                 rows.len() * ROW_WORDS,
                 answers.as_mut_ptr().cast(),
-                answers.len() * ROW_WORDS,
+                answers.len() * ANSWER_WORDS,
             )
         };
         made as usize

@@ -3,7 +3,7 @@
 use crate::event::{Action, Kind, Side, SimEvent};
 use std::ops::BitOr;
 
-/// The words of a row, and of its answer.
+/// The words of a row.
 pub const ROW_WORDS: usize = 12;
 
 /// The codes of a row, its first word.

@@ -93,8 +93,9 @@ extern "C" {
         out_words: usize,
     ) -> u64;
 
-    /// Makes a network step. `out` is one word: 1 where there is network activity, else 0. An `out` of another length is
-    /// left as it was, and the call is made all the same.
+    /// Makes a network step. `out` is three words: 1 where there is network activity, else 0; 1 where there is a moment at
+    /// which the packet count falls, else 0; that moment, or 0. An `out` of another length is left as it was, and the call
+    /// is made all the same.
     pub fn maybenot_core_sim_network_stack(
         block: *mut u64,
         words: usize,
@@ -121,7 +122,7 @@ extern "C" {
     ) -> u64;
 
     /// Makes the calls of a list, and answers how many were made. Of each row of twelve words in `calls` the first is the
-    /// code, 0 to 7, and the arguments follow; its answer is twelve words in `answers`: the number of the refusal, what the
+    /// code, 0 to 7, and the arguments follow; its answer is sixteen words in `answers`: the number of the refusal, what the
     /// call writes to `out`, and zeros. The header says what a turn is (code 7), and where a list stops.
     pub fn maybenot_core_calls(
         block: *mut u64,

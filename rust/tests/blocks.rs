@@ -75,7 +75,7 @@ fn an_answer_of_another_length_is_left() {
 
 #[test]
 fn the_answer_of_a_step_is_left_too() {
-    for length in [0, 1, 2, 10] {
+    for length in [0, 1, 2, 3, 4, 10] {
         let mut words = core(16).words().to_vec();
         let mut out = vec![7; length];
         // SAFETY: both are vectors of their own, each with its length.
@@ -97,8 +97,9 @@ fn the_answer_of_a_step_is_left_too() {
             )
         };
         assert_eq!(number, 0);
-        let left = if length == 1 {
-            vec![1]
+        // the window is a second
+        let left = if length == 3 {
+            vec![1, 1, 1_000_000_006]
         } else {
             vec![7; length]
         };
@@ -123,7 +124,7 @@ fn a_refused_call_writes_zeros() {
         )
     };
     assert_eq!((number, out), (2, [0; 10]));
-    let mut out = [7; 1];
+    let mut out = [7; 3];
     // SAFETY: both are arrays of their own, each with its length.
     let number = unsafe {
         sys::maybenot_core_sim_network_stack(
@@ -142,5 +143,5 @@ fn a_refused_call_writes_zeros() {
             out.len(),
         )
     };
-    assert_eq!((number, out), (2, [0; 1]));
+    assert_eq!((number, out), (2, [0; 3]));
 }

@@ -6,7 +6,7 @@ mod lists;
 use common::{core, packet};
 use lists::alone::hold_words;
 use maybenot_core::{
-    sys, Action, Answer, AnswerRow, Call, Core, Row, Side, Stop, MAX_MOMENT, ROW_WORDS,
+    sys, Action, Answer, AnswerRow, Call, Core, Row, Side, Stop, ANSWER_WORDS, MAX_MOMENT,
 };
 
 /// What no answer holds.
@@ -37,9 +37,9 @@ fn a_list_stops_before_a_code_that_is_no_call() {
             let mut rows = some_rows();
             rows[at].0[0] = code;
             let mut core = core(16);
-            let mut room = vec![AnswerRow([BEFORE; ROW_WORDS]); 5];
+            let mut room = vec![AnswerRow([BEFORE; ANSWER_WORDS]); 5];
             assert_eq!(core.calls(&rows, &mut room).len(), at, "code {code}");
-            assert!(room[at..].iter().all(|a| a.0 == [BEFORE; ROW_WORDS]));
+            assert!(room[at..].iter().all(|a| a.0 == [BEFORE; ANSWER_WORDS]));
         }
     }
 }
@@ -48,7 +48,7 @@ fn a_list_stops_before_a_code_that_is_no_call() {
 fn a_list_stops_where_rows_or_answers_run_out() {
     let rows: Vec<u64> = some_rows().iter().flat_map(|row| row.0).collect();
     for calls in 0..=rows.len() {
-        for room in [calls, 0, 11, 12, 25, 59, 60] {
+        for room in [calls, 0, 15, 16, 33, 79, 80] {
             let mut words = core(16).words().to_vec();
             let mut alone = words.clone();
             let mut answers = vec![BEFORE; room];
@@ -63,8 +63,8 @@ fn a_list_stops_where_rows_or_answers_run_out() {
                     room,
                 )
             } as usize;
-            assert_eq!(made, (calls / 12).min(room / 12), "{calls}, {room}");
-            assert!(answers[12 * made..].iter().all(|w| *w == BEFORE));
+            assert_eq!(made, (calls / 12).min(room / 16), "{calls}, {room}");
+            assert!(answers[16 * made..].iter().all(|w| *w == BEFORE));
             Core::resume(&mut alone)
                 .calls(&some_rows()[..made], &mut [AnswerRow::default(); 5])
                 .for_each(drop);

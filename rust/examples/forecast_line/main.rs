@@ -21,6 +21,11 @@ use std::process::ExitCode;
 /// Nanoseconds in a millisecond.
 pub const MS: u64 = 1_000_000;
 
+/// The rate limit: the most packets in a window that a side sends without extra delay. The window holds ten packets of
+/// the server's padding; 100 ms would hold eleven, since a packet of the window's age still counts.
+pub const RATE: u64 = 20;
+pub const WINDOW: u64 = 99 * MS;
+
 /// The packet list: when each side hands in its packets, in milliseconds. The client asks three times, and the server
 /// answers with a burst each time.
 const CLIENT_SENDS: [u64; 10] = [20, 84, 90, 150, 300, 306, 372, 624, 630, 694];
@@ -29,7 +34,7 @@ const SERVER_SENDS: [u64; 30] = [
     660, 666, 672, 678, 684, 690, 696, 702, 708, 714, 732,
 ];
 
-/// The line: 30 ms between the sides, and one machine for padding, one for blocks on each side.
+/// The line: 30 ms between the sides, a rate limit, and one machine for padding, one for blocks on each side.
 fn line() -> Opening {
     let side = SideOpening {
         machines: 2,
@@ -37,6 +42,8 @@ fn line() -> Opening {
     };
     Opening {
         network_delay: 30 * MS,
+        network_rate: Some(RATE),
+        window: WINDOW,
         client: side,
         server: side,
         ..Opening::default()
@@ -83,7 +90,7 @@ fn plans() -> [Plan; 3] {
         },
         Plan {
             name: "Padding at a constant rate",
-            says: "Padding every 20 ms from the client, every 10 ms from the server. No packet waits, and the bursts still show.",
+            says: "Padding every 20 ms from the client, every 10 ms from the server. No packet waits, the bursts still show, and meet the rate limit.",
             schedule: vec![
                 padding(Side::Client, 20, plain),
                 padding(Side::Server, 10, plain),

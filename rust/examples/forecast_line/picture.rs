@@ -1,7 +1,9 @@
-//! The picture: a panel for each run, with what each side sends over time, blocks as bars, and the aggregate delays.
+//! The picture: a panel for each run, with what each side sends over time, blocks as bars, where the rate limit bites,
+//! and the aggregate delays.
 
 use crate::run::Run;
-use crate::MS;
+use crate::table::ms;
+use crate::{MS, RATE, WINDOW};
 use maybenot_core::Side;
 use std::fmt::Write;
 
@@ -13,13 +15,15 @@ const FIRST_PANEL: u64 = 116;
 const PANEL: u64 = 214;
 const LANES: [u64; 2] = [64, 96];
 const LANE: u64 = 26;
+const LIMIT: f64 = 3.0;
 const DELAY_TOP: u64 = 122;
 const DELAY: u64 = 56;
 
-/// The colours of packets, padding, blocks, and of the two delays.
+/// The colours of packets, padding, blocks, the rate limit, and of the two delays.
 const PACKET: &str = "#0b5fa5";
 const PADDING: &str = "#e8932b";
 const BLOCK: &str = "#d5dbe3";
+const BITES: &str = "#d7263d";
 const DELAYS: [&str; 2] = ["#1f2933", "#b0326e"];
 const DASHES: [&str; 2] = ["", " stroke-dasharray=\"5 3\""];
 
@@ -106,7 +110,10 @@ fn head(out: &mut String, height: u64) {
         24.0,
         54.0,
         "small",
-        "When packets and padding leave the client and the server, as the event core forecasts it. Network delay 30 ms each way.",
+        &format!(
+            "When packets and padding leave the client and the server, as the event core forecasts it. Network delay 30 ms each way, rate limit {RATE} packets in {} ms.",
+            WINDOW / MS
+        ),
     );
 }
 
@@ -118,8 +125,10 @@ fn legend(out: &mut String) {
     text(out, 114.0, y + 4.0, "", "padding");
     rectangle(out, 186.0, y - 7.0, 26.0, 14.0, BLOCK);
     text(out, 220.0, y + 4.0, "", "side is blocked");
+    rectangle(out, 322.0, y - LIMIT / 2.0, 26.0, LIMIT, BITES);
+    text(out, 356.0, y + 4.0, "", "rate limit bites");
     for (at, side) in Side::BOTH.into_iter().enumerate() {
-        let x = 336.0 + 240.0 * at as f64;
+        let x = 460.0 + 210.0 * at as f64;
         delay_line(out, &format!("{x:.1},{y:.1} {:.1},{y:.1}", x + 28.0), at);
         text(
             out,
@@ -139,7 +148,22 @@ fn delay_line(out: &mut String, points: &str, side: usize) {
     );
 }
 
-/// The lanes of a panel: blocks first, then what is sent, padding below packets.
+/// Until when the rate limit bites in a run.
+fn bites(run: &Run) -> String {
+    let until = |side: Side| {
+        Some(format!(
+            "the {side} until {} ms",
+            ms(run.bites_until(side)?)
+        ))
+    };
+    let sides: Vec<String> = Side::BOTH.into_iter().filter_map(until).collect();
+    if sides.is_empty() {
+        return "The rate limit does not bite.".to_string();
+    }
+    format!("The rate limit bites {}.", sides.join(", "))
+}
+
+/// The lanes of a panel: blocks first, then what is sent, padding below packets, and where the rate limit bites.
 fn lanes(out: &mut String, run: &Run, scale: &Scale, top: f64) {
     let middle = |side: Side| top + LANES[usize::from(side == Side::Server)] as f64;
     for side in Side::BOTH {
@@ -160,6 +184,11 @@ fn lanes(out: &mut String, run: &Run, scale: &Scale, top: f64) {
         for s in run.sent.iter().filter(|s| s.padding == padding) {
             mark(out, scale.x(s.moment), middle(s.side), padding);
         }
+    }
+    for b in &run.bites {
+        let (from, to) = (scale.x(b.from), scale.x(b.until));
+        let top = middle(b.side) + LANE as f64 / 2.0 + 1.0;
+        rectangle(out, from, top, to - from, LIMIT, BITES);
     }
 }
 
@@ -223,6 +252,13 @@ fn axis(out: &mut String, scale: &Scale, bottom: f64) {
         "small",
         "Aggregate delay: by how much what a side has still to send is late. To an observer packets and padding look alike.",
     );
+    text(
+        out,
+        24.0,
+        bottom + 80.0,
+        "small",
+        "The rate limit bites: one more packet would be delayed. At the end of a mark the count falls, by one at least, if nothing else is sent.",
+    );
 }
 
 /// The whole picture as SVG.
@@ -230,12 +266,14 @@ pub fn picture(runs: &[Run]) -> String {
     let scale = Scale::of(runs);
     let bottom = FIRST_PANEL + PANEL * runs.len() as u64 - 30;
     let mut out = String::new();
-    head(&mut out, bottom + 80);
+    head(&mut out, bottom + 96);
     legend(&mut out);
     axis(&mut out, &scale, bottom as f64);
     for (at, run) in runs.iter().enumerate() {
         let top = (FIRST_PANEL + PANEL * at as u64) as f64;
         text(&mut out, 24.0, top + 16.0, "name", run.plan.name);
+        let right = (LEFT + PLOT) as f64;
+        text(&mut out, right, top + 16.0, "smallright", &bites(run));
         text(&mut out, 24.0, top + 34.0, "small", run.plan.says);
         grid(&mut out, &scale, top);
         lanes(&mut out, run, &scale, top);

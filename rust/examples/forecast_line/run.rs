@@ -1,9 +1,9 @@
 //! The driver's loop, and what it sees.
 
-use crate::listed;
-use maybenot_core::{Action, Choice, Core, Kind, Opening, Refusal, Side, SimEvent};
+use crate::{listed, RATE, WINDOW};
+use maybenot_core::{Action, Choice, Core, Kind, Opening, Refusal, Side, SimEvent, Step};
 
-/// Records enough for the packets, the padding and what a second of stamps takes.
+/// Records enough for the packets, the padding and the stamps of a window.
 const RECORDS: usize = 1024;
 
 /// An action that is set at the start and again each time it has happened.
@@ -41,6 +41,14 @@ pub struct Blocked {
     pub to: u64,
 }
 
+/// The rate limit bites: until the count falls, one more packet of the side would be delayed.
+pub struct Bites {
+    pub side: Side,
+    pub from: u64,
+    /// When the packet count falls, by one at least, if nothing else is sent.
+    pub until: u64,
+}
+
 /// The aggregate delays from a moment on.
 pub struct Sums {
     pub moment: u64,
@@ -52,6 +60,7 @@ pub struct Run {
     pub plan: Plan,
     pub sent: Vec<Sent>,
     pub blocked: Vec<Blocked>,
+    pub bites: Vec<Bites>,
     pub sums: Vec<Sums>,
     /// When the last packet of the list was received, and how many events the driver stepped on.
     pub last_received: u64,
@@ -70,6 +79,7 @@ impl Run {
             plan,
             sent: vec![],
             blocked: vec![],
+            bites: vec![],
             sums: vec![Sums {
                 moment: 0,
                 of: [0, 0],
@@ -131,6 +141,30 @@ impl Run {
         }
         self.steps += 1;
     }
+
+    /// Keeps how long the rate limit bites after a packet was sent. The step tells when the oldest packet that counts goes,
+    /// and so which one it is. Time does not go backwards in this loop: all that the side has sent from it on counts.
+    fn note_limit(&mut self, event: &SimEvent, step: Step) {
+        let Some(until) = step.falls else {
+            return;
+        };
+        let SimEvent { side, moment, .. } = *event;
+        let oldest = until - 1 - WINDOW;
+        let counts = |s: &&Sent| s.side == side && s.moment >= oldest;
+        if self.sent.iter().filter(counts).count() as u64 >= RATE {
+            self.bites.push(Bites {
+                side,
+                from: moment,
+                until,
+            });
+        }
+    }
+
+    /// The latest moment until which the rate limit bites on a side.
+    pub fn bites_until(&self, side: Side) -> Option<u64> {
+        let on_side = self.bites.iter().filter(|b| b.side == side);
+        on_side.map(|b| b.until).max()
+    }
 }
 
 /// Opens the line, pushes the packet list and sets the first actions.
@@ -154,9 +188,10 @@ pub fn run(opening: &Opening, plan: Plan) -> Result<Run, Refusal> {
     let mut now = 0;
     while let Choice::Event { event, .. } = core.pick_next(now)? {
         now = event.moment;
-        core.sim_network_stack(now, &event)?;
+        let step = core.sim_network_stack(now, &event)?;
         run.follow(&mut core, &event)?;
         run.note(&core, &event);
+        run.note_limit(&event, step);
     }
     Ok(run)
 }

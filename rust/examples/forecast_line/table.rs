@@ -1,7 +1,7 @@
 //! The tables: when each packet of the list leaves, and what each schedule costs.
 
 use crate::run::{Run, Sent};
-use crate::{listed, MS};
+use crate::{listed, MS, RATE, WINDOW};
 use maybenot_core::Side;
 
 /// A moment or a length in milliseconds, with one digit after the point.
@@ -72,13 +72,27 @@ fn costs(runs: &[Run]) -> String {
         text.push_str(&row(&format!("{side}: aggregate delay, ms"), runs, |r| {
             ms(sum_at_end(r, at))
         }));
+        text.push_str(&row(&format!("{side}: limit bites until, ms"), runs, |r| {
+            r.bites_until(side).map_or("-".to_string(), ms)
+        }));
     }
     text.push_str(&row("latest packet late by, ms", runs, |r| ms(greatest(r))));
     text.push_str(&row("last packet received at, ms", runs, |r| {
         ms(r.last_received)
     }));
     text.push_str(&row("events chosen", runs, |r| r.steps.to_string()));
+    text.push('\n');
+    text.push_str(&limit());
     text
+}
+
+/// What it means that the limit bites until a moment.
+fn limit() -> String {
+    format!(
+        "The limit bites: the side has sent {RATE} packets or more in {} ms, and one more would be delayed.\n\
+         At the moment given the count falls, by one at least, if nothing else is sent.\n",
+        WINDOW / MS
+    )
 }
 
 /// Both tables.

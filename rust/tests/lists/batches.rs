@@ -6,11 +6,12 @@
 use super::alone::{hold_words, made_alone};
 use super::random::Random;
 use maybenot_core::{
-    Answer, AnswerRow, Call, Choice, Core, Kind, Row, Side, SimEvent, Stop, Turn, ROW_WORDS,
+    Answer, AnswerRow, Call, Choice, Core, Kind, Row, Side, SimEvent, Stop, Turn, ANSWER_WORDS,
+    ROW_WORDS,
 };
 
 /// What no answer holds.
-const UNTOUCHED: AnswerRow = AnswerRow([0x0123_4567_89ab_cdef; ROW_WORDS]);
+const UNTOUCHED: AnswerRow = AnswerRow([0x0123_4567_89ab_cdef; ANSWER_WORDS]);
 
 /// A row that will be made, with the answer that is due.
 struct Due {

@@ -12,7 +12,7 @@ pub mod show;
 use alone::made_alone;
 use batches::{made_as_lists, Tally};
 use line::{line_of, Line};
-use maybenot_core::{Answer, Call, Choice, Core, Refusal};
+use maybenot_core::{Answer, Call, Choice, Core, Refusal, Step};
 use random::Random;
 
 /// The words that the lists work on, and those of the second block.
@@ -54,8 +54,9 @@ fn ok(_: ()) -> String {
     "ok".to_string()
 }
 
-fn yes_or_no(activity: bool) -> String {
-    if activity { "yes" } else { "no" }.to_string()
+fn stepped(step: Step) -> String {
+    let activity = if step.active { "yes" } else { "no" };
+    format!("{activity} falls {}", show::or_dash(step.falls))
 }
 
 fn chosen(choice: Choice) -> String {
@@ -72,10 +73,10 @@ fn write(given: &Answer, answers: &mut Vec<String>) {
     match *given {
         Answer::Done(done) => answers.push(answer(done.map(ok))),
         Answer::Choice(choice) => answers.push(answer(choice.map(chosen))),
-        Answer::Step(step) => answers.push(answer(step.map(yes_or_no))),
+        Answer::Step(step) => answers.push(answer(step.map(stepped))),
         Answer::Turn(turn) => {
             answers.push(answer(turn.choice.map(chosen)));
-            answers.extend(turn.step.map(|step| answer(step.map(yes_or_no))));
+            answers.extend(turn.step.map(|step| answer(step.map(stepped))));
         }
     }
 }

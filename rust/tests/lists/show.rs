@@ -40,7 +40,7 @@ pub fn event_words(e: &SimEvent) -> String {
 }
 
 /// A number, or `-` for none.
-fn or_dash(n: Option<u64>) -> String {
+pub fn or_dash(n: Option<u64>) -> String {
     n.map_or("-".to_string(), |n| n.to_string())
 }
 
