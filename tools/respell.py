@@ -25,7 +25,18 @@ PATH = re.compile(r"(?<![\w.'-])[cwlg](?:\.[^\s(){};,@\"«»]+)")
 COMMENT = re.compile(r"--[^\n]*")
 CLAUSE = re.compile(r"(?:\brequires|\bensures|\bghost)\b[^{};\n]*\{")
 # Names whose plain new spelling is another name's in some file, with the spelling that they get instead.
-APART = {n: n + "_lem" for n in ("chain_head", "first_block", "free_in", "head_in", "in_order", "last_row", "side_after")}
+APART = {n: n + "_lem" for n in ("chain_head", "first_block", "free_in", "head_in", "last_row", "side_after")}
+# Fields and cases whose name a definition has.
+APART |= {
+    "no-event": "no_events",
+    "no-block": "no_blocks",
+    "no-timer": "no_timers",
+    "no-action": "no_actions",
+    "wrong-length": "bad_length",
+    "queue-rate": "queue_rate_fits",
+    "network-rate": "network_rate_fits",
+    "in_order": "met_in_order",
+}
 # Three definitions give way to the calls of the same name.
 APART |= {"setTimer": "timer_set", "clearTimer": "timer_cleared", "clearAction": "action_cleared"}
 # Names that stay.

@@ -21,7 +21,7 @@ use Rattle.accept.specs.Slots.{Zeros, EmptyIn, OkIn, RoomIn, FoundIn, FoundAll}
 
 -- an empty slot is in order
 pub empty_ok : {h : List ℕ} {j : ℕ} → SlotEmpty h j → SlotOk h j
-empty_ok {h} {j} e = record { timer = omega (arith, e.timer); action = action; no_timer_lem = λ _. e.timer; no_action_lem = λ _. e.action }
+empty_ok {h} {j} e = record { timer = omega (arith, e.timer); action = action; no_timers = λ _. e.timer; no_actions = λ _. e.action }
   where
     action : ActionOk (action_of h j) (action_moment h j) (action_duration h j)
     action =
@@ -41,14 +41,14 @@ empty_ok {h} {j} e = record { timer = omega (arith, e.timer); action = action; n
 past_empty : (h : List ℕ) (j : ℕ) → SlotOk h j → machines_of h (j / 16) ≤ j % 16 → SlotEmpty h j
 past_empty h j ok l =
     record {
-      timer = ok.no_timer_lem l;
+      timer = ok.no_timers l;
       action = none;
       moment = (ok.action.shape.empty (omega (arith, none))).1;
       duration = ok.action.shape.padding (omega (arith, none));
     }
   where
     none : action_of h j ≡ 0
-    none = ok.no_action_lem l
+    none = ok.no_actions l
 
 -- ---- words or-ed together
 

@@ -190,7 +190,7 @@ fn all_empty(header: &[u64], from: usize, end: usize) -> bool
 }
 
 // What a test of slots finds: one that is not in order, or the records that they keep in reserve.
-#[derive(Drop)]
+#[derive(Clone, Copy)]
 pub enum Slots {
     Wrong,
     Reserve(u64),

@@ -1,4 +1,6 @@
 // The test of the lent words: which are an accepted state.
+#![tactic(auto)]
+
 ghost use Rattle.std.specs.Prelude.{◌≡◌, ◌≤◌, length};
 ghost use Rattle.layout.specs.Decides.{Decides};
 ghost use Rattle.layout.specs.Accepted.{SizeOk, Good, Accepted};

@@ -2,7 +2,6 @@
 ghost use Rattle.std.specs.Prelude.{◌≡◌, ◌≤◌, ◌<◌, length};
 
 use crate::header::at;
-use crate::text::Output;
 use crate::{answers, text};
 use event::{Kind, SimEvent};
 use moment::{Length, Moment};
@@ -36,42 +35,42 @@ fn field(block: &[u64], r: u64, j: usize) -> u64
 }
 
 // A number that ends its line.
-fn put_last(out: &mut [u8], waiting: Output, n: u64) -> Output
-    requires { waiting.used ≤ length out.old }
-    ensures { result.used ≤ length out.new }
+fn put_last(out: &mut [u8], used: usize, n: u64) -> usize
+    requires { used ≤ length out.old }
+    ensures { result ≤ length out.new }
 {
-    let a = text::put_next(out, waiting, n);
+    let a = text::put_next(out, used, n);
     text::put(out, a, b"\n")
 }
 
-fn put_stamp(out: &mut [u8], waiting: Output, client: bool, moment: u64) -> Output
-    requires { waiting.used ≤ length out.old }
-    ensures { result.used ≤ length out.new }
+fn put_stamp(out: &mut [u8], used: usize, client: bool, moment: u64) -> usize
+    requires { used ≤ length out.old }
+    ensures { result ≤ length out.new }
 {
-    let a = text::put(out, waiting, b"stamp");
+    let a = text::put(out, used, b"stamp");
     let b = text::put_side(out, a, client);
     put_last(out, b, moment)
 }
 
-fn put_aggregate(out: &mut [u8], waiting: Output, client: bool, moment: u64, span: u64) -> Output
-    requires { waiting.used ≤ length out.old }
-    ensures { result.used ≤ length out.new }
+fn put_aggregate(out: &mut [u8], used: usize, client: bool, moment: u64, span: u64) -> usize
+    requires { used ≤ length out.old }
+    ensures { result ≤ length out.new }
 {
-    let a = text::put(out, waiting, b"aggregate");
+    let a = text::put(out, used, b"aggregate");
     let b = text::put_side(out, a, client);
     let c = text::put_next(out, b, moment);
     put_last(out, c, span)
 }
 
-fn put_chain_name(out: &mut [u8], waiting: Output, chain: usize) -> Output
-    requires { waiting.used ≤ length out.old }
-    ensures { result.used ≤ length out.new }
+fn put_chain_name(out: &mut [u8], used: usize, chain: usize) -> usize
+    requires { used ≤ length out.old }
+    ensures { result ≤ length out.new }
 {
     match chain % 5 {
-        1 => text::put(out, waiting, b"event base"),
-        2 => text::put(out, waiting, b"event blocking"),
-        3 => text::put(out, waiting, b"event bypassable"),
-        _ => text::put(out, waiting, b"event internal"),
+        1 => text::put(out, used, b"event base"),
+        2 => text::put(out, used, b"event blocking"),
+        3 => text::put(out, used, b"event bypassable"),
+        _ => text::put(out, used, b"event internal"),
     }
 }
 
@@ -89,46 +88,46 @@ fn event_of(block: &[u64], r: u64, client: bool) -> SimEvent {
     }
 }
 
-fn put_queued(block: &[u64], chain: usize, r: u64, out: &mut [u8], waiting: Output) -> Output
-    requires { waiting.used ≤ length out.old }
-    ensures { result.used ≤ length out.new }
+fn put_queued(block: &[u64], chain: usize, r: u64, out: &mut [u8], used: usize) -> usize
+    requires { used ≤ length out.old }
+    ensures { result ≤ length out.new }
 {
     let e = event_of(block, r, chain < CLIENT_STAMPS);
-    let a = put_chain_name(out, waiting, chain);
+    let a = put_chain_name(out, used, chain);
     let b = answers::put_event(out, a, e);
     text::put(out, b, b"\n")
 }
 
-fn put_record(block: &[u64], chain: usize, r: u64, out: &mut [u8], waiting: Output) -> Output
-    requires { waiting.used ≤ length out.old }
-    ensures { result.used ≤ length out.new }
+fn put_record(block: &[u64], chain: usize, r: u64, out: &mut [u8], used: usize) -> usize
+    requires { used ≤ length out.old }
+    ensures { result ≤ length out.new }
 {
     if chain == CLIENT_STAMPS {
-        return put_stamp(out, waiting, true, field(block, r, 1));
+        return put_stamp(out, used, true, field(block, r, 1));
     }
     if chain == SERVER_STAMPS {
-        return put_stamp(out, waiting, false, field(block, r, 1));
+        return put_stamp(out, used, false, field(block, r, 1));
     }
     if chain == AGGREGATES {
         return put_aggregate(
             out,
-            waiting,
+            used,
             tag::client(field(block, r, 3)),
             field(block, r, 1),
             field(block, r, 2),
         );
     }
-    put_queued(block, chain, r, out, waiting)
+    put_queued(block, chain, r, out, used)
 }
 
 // The records of a chain, from its head.
-fn put_chain(block: &[u64], chain: usize, out: &mut [u8], waiting: Output) -> Output
-    requires { (chain ≤ 11) × (waiting.used ≤ length out.old) }
-    ensures { result.used ≤ length out.new }
+fn put_chain(block: &[u64], chain: usize, out: &mut [u8], used: usize) -> usize
+    requires { (chain ≤ 11) × (used ≤ length out.old) }
+    ensures { result ≤ length out.new }
 {
     let mut r = at(block, CHAINS + 2 * chain);
     let mut left = at(block, CHAINS + 2 * chain + 1);
-    let mut u = waiting;
+    let mut u = used;
     while left > 0 {
         u = put_record(block, chain, r, out, u);
         r = field(block, r, 0);
@@ -156,11 +155,11 @@ fn shown(i: usize) -> usize
     AGGREGATES
 }
 
-pub(crate) fn put_chains(block: &[u64], out: &mut [u8], waiting: Output) -> Output
-    requires { waiting.used ≤ length out.old }
-    ensures { result.used ≤ length out.new }
+pub(crate) fn put_chains(block: &[u64], out: &mut [u8], used: usize) -> usize
+    requires { used ≤ length out.old }
+    ensures { result ≤ length out.new }
 {
-    let mut u = waiting;
+    let mut u = used;
     let mut i = 0;
     while i < SHOWN {
         u = put_chain(block, shown(i), out, u);

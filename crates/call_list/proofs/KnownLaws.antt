@@ -44,7 +44,7 @@ refused_lent n w c bad l d = (record { outcome = lent_outcome (take n w) c bad l
 
 -- what the test says of the words it says of those that a call leaves
 left_lent : (n : ℕ) (w : List ℕ) (c : Call) (a : Answer) (left : List ℕ) (bad : ℕ) → Lent (take n w) bad → OnLent n w c a left → Lent (take n left) bad
-left_lent n w c a left bad (inl x) o = subst (λ (z : List ℕ). Lent z bad) (sym (o.outcome.wrong_length_lem x.0).1) (inl x)
+left_lent n w c a left bad (inl x) o = subst (λ (z : List ℕ). Lent z bad) (sym (o.outcome.bad_length x.0).1) (inl x)
 left_lent n w c a left bad (inr (inl x)) o = subst (λ (z : List ℕ). Lent z bad) (sym (o.outcome.bad x.0 x.1.0).1) (inr (inl x))
 left_lent n w c a left bad (inr (inr (acc, e))) o = inr (inr ((o.outcome.state acc).accepted, e))
 
@@ -59,12 +59,11 @@ made_lent n w ys c a bad within l z o =
 
 -- ---- the flag
 
+pub lent_known : (n : ℕ) (w : List ℕ) (bad : ℕ) → Lent (take n w) bad → bad ≡ 0 → Known 1 n w
+lent_known n w bad l z = record { accepted = λ e. lent_accepted (take n w) bad l z }
+
 pub none_known : (n : ℕ) (w : List ℕ) → Known 0 n w
 none_known n w = record { accepted = λ e. absurd (omega (arith, e)) }
 
 pub same_known : (flag other n m : ℕ) (w : List ℕ) → Known flag n w → other ≡ flag → m ≡ n → Known other m w
 same_known flag other n m w k e d = record { accepted = λ q. subst (λ (i : ℕ). Accepted (take i w)) (sym d) (k.accepted (sym e ∙ q)) }
-
--- the flag after a call: where it is 1 the test accepted the words
-pub called_known : (flag n : ℕ) (w : List ℕ) (bad : ℕ) → Lent (take n w) bad → (flag ≡ 1 → bad ≡ 0) → Known flag n w
-called_known flag n w bad l zero = record { accepted = λ e. lent_accepted (take n w) bad l (zero e) }

@@ -1,6 +1,5 @@
 pub mod KnownLaws
 pub mod LentLaws
-pub mod LineLaws
-pub mod MadeLaws
-pub mod RunLaws
+pub mod ReadingLaws
 pub mod TakeLaws
+pub mod WithinLaws

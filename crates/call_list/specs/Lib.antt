@@ -1,4 +1,2 @@
 pub mod Lent
-pub mod Lines
-pub mod Scanned
-pub mod Told
+pub mod Reading

@@ -1,6 +1,8 @@
-// Lists of calls: each line's call is made, and its answer put (docs/CALLS.md).
+// Lists of calls: how a line is read, and its call made (docs/CALLS.md).
+#![tactic(auto)]
+
 mod calls;
 pub mod line;
-mod lines;
-pub mod scan;
+pub mod reading;
 mod second;
+mod words;

@@ -8,7 +8,7 @@ use native.Mathlib.Omega.{arith}
 use lib.Dec.{ltb}
 use lib.ListN.{get_or}
 use borrow.Author.Tests.{eq-eqb, ne_eqb, ltb-true, ltb-false}
-use Rattle.rules.specs.Basics.{if◌then◌else◌}
+use Rattle.std.specs.Prelude.{if◌then◌else◌}
 use Rattle.rules.specs.State.{Event}
 use Rattle.rules.specs.Choice.{Answer, done, event, nothing_left, step_made, refused}
 use Rattle.rules.specs.Arguments.{Call, EventIn, ActionIn, push, set_action, clear_action, set_timer, clear_timer, pick_next, sim_network_stack}

@@ -3,7 +3,8 @@ use Prim.Native.Nat.{ℕ}
 use mathlib.Core.Path.{◌≡◌, refl, ap, subst, ◌∙◌}
 use mathlib.Core.Bool.{Bool, true, false}
 use mathlib.Core.List.{List}
-use Rattle.rules.specs.Basics.{if◌then◌else◌, client, server}
+use Rattle.std.specs.Prelude.{if◌then◌else◌}
+use Rattle.rules.specs.Basics.{client, server}
 use Rattle.rules.specs.Arguments.{Call, ActionIn, set_action, clear_action, set_timer, clear_timer}
 use Rattle.event.specs.HandedIn.{side_of}
 use Rattle.event.specs.Answers.{answer_of}

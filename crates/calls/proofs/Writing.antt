@@ -11,7 +11,7 @@ use lib.ListN.{length, take, drop, get_or, set, length-set}
 use lib.Seq.{take-length, drop-length}
 use borrow.Author.Tests.{eq-eqb, ne_eqb}
 use mir.Val.{bool_byte}
-use Rattle.rules.specs.Basics.{if◌then◌else◌}
+use Rattle.std.specs.Prelude.{if◌then◌else◌}
 use Rattle.rules.specs.Choice.{Answer, step_made}
 use Rattle.rules.specs.State.{Event}
 use Rattle.rules.specs.Arguments.{Call}

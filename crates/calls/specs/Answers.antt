@@ -1,7 +1,7 @@
 -- What a choice and a network step write: their answer as words, in the place that the caller gives for it. Assumes nothing.
-use Rattle.std.specs.Prelude.{ℕ, ◌≡◌, Bool, List, [], ◌∷◌, eqb, length}
+use Rattle.std.specs.Prelude.{ℕ, ◌≡◌, Bool, List, [], ◌∷◌, eqb, length, if◌then◌else◌}
 use Rattle.std.proofs.Math.Option.{Option, none, some}
-use Rattle.rules.specs.Basics.{if◌then◌else◌, Side, client, server, rank}
+use Rattle.rules.specs.Basics.{Side, client, server, rank}
 use Rattle.rules.specs.State.{Event}
 use Rattle.rules.specs.Choice.{Answer, done, event, nothing_left, step_made, refused}
 use Rattle.rules.specs.Arguments.{Call}

@@ -1,6 +1,5 @@
 -- What one call of a row promises: the call, and its answer as sixteen words. Assumes nothing.
-use Rattle.std.specs.Prelude.{ℕ, ◌/◌, ◌≡◌, Bool, false, ◌||◌, List, ◌∷◌, eqb, get_or}
-use Rattle.rules.specs.Basics.{if◌then◌else◌}
+use Rattle.std.specs.Prelude.{ℕ, ◌/◌, ◌≡◌, Bool, false, ◌||◌, List, ◌∷◌, eqb, get_or, if◌then◌else◌}
 use Rattle.rules.specs.Choice.{Answer}
 use Rattle.rules.specs.Arguments.{Call, pick_next}
 use Rattle.simulator.specs.Outcome.{Outcome}

@@ -1,6 +1,6 @@
 -- A call with numbers: what they stand for, and its answer as a number. Assumes nothing.
-use Rattle.std.specs.Prelude.{ℕ, ◌≡◌, Bool, not, List, eqb}
-use Rattle.rules.specs.Basics.{if◌then◌else◌, Side, client, server}
+use Rattle.std.specs.Prelude.{ℕ, ◌≡◌, Bool, not, List, eqb, if◌then◌else◌}
+use Rattle.rules.specs.Basics.{Side, client, server}
 use Rattle.rules.specs.Choice.{Answer, done, event, nothing_left, step_made, refused}
 use Rattle.rules.specs.Arguments.{Call, EventIn, ActionIn}
 use Rattle.rules.specs.ChoiceRound.{Slot}

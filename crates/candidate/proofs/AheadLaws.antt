@@ -8,7 +8,8 @@ use native.Mathlib.Omega.{arith}
 use lib.Dec.{leb}
 use lib.ListN.{get_or}
 use borrow.Author.Tests.{leb-true}
-use Rattle.rules.specs.Basics.{if◌then◌else◌, after, absent, earlier, ◌≤ᵈ◌, Delay}
+use Rattle.std.specs.Prelude.{if◌then◌else◌}
+use Rattle.rules.specs.Basics.{after, absent, earlier, ◌≤ᵈ◌, Delay}
 use Rattle.rules.specs.State.{Action}
 use Rattle.rules.specs.Limits.{moment_limit}
 use Rattle.rules.specs.ChoiceDelays.{slot_delay, least_delay, action_moments, delays, Delays as RulesDelays}

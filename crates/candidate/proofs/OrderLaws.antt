@@ -5,7 +5,8 @@ use mathlib.Core.Bool.{Bool, true, false, not}
 use mathlib.Core.List.{List, head?}
 use mathlib.Core.Option.{Option, none, some}
 use borrow.Author.Tests.{not-true, not-false}
-use Rattle.rules.specs.Basics.{if◌then◌else◌, after, absent, Delay, ◌≤ᵈ◌}
+use Rattle.std.specs.Prelude.{if◌then◌else◌}
+use Rattle.rules.specs.Basics.{after, absent, Delay, ◌≤ᵈ◌}
 use Rattle.rules.specs.State.{State}
 use Rattle.rules.specs.ChoiceHeads.{Head}
 use Rattle.rules.specs.ChoiceDelays.{Delays as RulesDelays, delays, offered, next_block}

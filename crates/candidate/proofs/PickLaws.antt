@@ -6,7 +6,7 @@ use mathlib.Core.List.{List, head?, map}
 use mathlib.Core.Option.{Option, none, some}
 use native.Mathlib.Omega.{arith}
 use lib.Dec.{ltb}
-use Rattle.rules.specs.Basics.{if◌then◌else◌}
+use Rattle.std.specs.Prelude.{if◌then◌else◌}
 use Rattle.rules.specs.State.{State, side}
 use Rattle.rules.specs.ChoiceHeads.{Head as RulesHead, waiting_head}
 use Rattle.rules.specs.ChoiceDelays.{next_block, first_block, Block}

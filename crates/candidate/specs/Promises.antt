@@ -1,7 +1,7 @@
 -- The slots that the loops look through, and what the functions promise beyond an equation. Assumes nothing.
-use Rattle.std.specs.Prelude.{ℕ, ◌+◌, ◌*◌, ◌≤◌, ◌<◌, ◌≡◌, Bool, false, List, eqb}
+use Rattle.std.specs.Prelude.{ℕ, ◌+◌, ◌*◌, ◌≤◌, ◌<◌, ◌≡◌, Bool, false, List, eqb, if◌then◌else◌}
 use Rattle.std.proofs.Math.Option.{Option, none, some, map}
-use Rattle.rules.specs.Basics.{if◌then◌else◌, after, absent, Delay}
+use Rattle.rules.specs.Basics.{after, absent, Delay}
 use Rattle.rules.specs.State.{Action, State}
 use Rattle.rules.specs.Limits.{moment_limit}
 use Rattle.rules.specs.ChoiceDelays.{Delays, offered}

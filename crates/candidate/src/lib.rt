@@ -1,4 +1,6 @@
 // What a round of a choice takes up: the candidate, and the sums that number 10 looks at.
+#![tactic(auto)]
+
 ghost use Rattle.std.specs.Prelude.{◌≡◌, ◌%◌};
 
 use delay::Delayed;
@@ -12,7 +14,7 @@ pub mod slots;
 pub mod sums;
 
 // A timer that is due: its side and machine, and when.
-#[derive(Drop)]
+#[derive(Clone, Copy)]
 pub struct Due {
     pub client: bool,
     pub machine: u64,
@@ -20,21 +22,21 @@ pub struct Due {
 }
 
 // The timer or the action of both sides that is due first, or none.
-#[derive(Drop)]
+#[derive(Clone, Copy)]
 pub enum FirstDue {
     At(Due),
     Nothing,
 }
 
 // A machine of a side, or none.
-#[derive(Drop)]
+#[derive(Clone, Copy)]
 pub enum Machine {
     At(u64),
     Nothing,
 }
 
 // An action that is due: its side and machine, and what it is.
-#[derive(Drop)]
+#[derive(Clone, Copy)]
 pub struct Planned {
     pub client: bool,
     pub machine: u64,
@@ -42,7 +44,7 @@ pub struct Planned {
 }
 
 // What a round takes up.
-#[derive(Drop)]
+#[derive(Clone, Copy)]
 pub enum Candidate {
     Aggregate(AggregateDelay),
     // A block's end, with what the test at it finds.
@@ -53,7 +55,7 @@ pub enum Candidate {
 }
 
 // A round's candidate, or none.
-#[derive(Drop)]
+#[derive(Clone, Copy)]
 pub enum Next {
     Take(Candidate),
     Nothing,

@@ -11,7 +11,8 @@ use lib.ListN.{length, length-append}
 use borrow.Author.Tests.{lt-ltb, le-ltb}
 use mir.Val.{Fits}
 use mir.Syntax.{w64}
-use Rattle.rules.specs.Basics.{Side, client, server, if◌then◌else◌}
+use Rattle.std.specs.Prelude.{if◌then◌else◌}
+use Rattle.rules.specs.Basics.{Side, client, server}
 use Rattle.rules.specs.State.{Event, Held, SideState, base, blocking, bypassable, internal, side}
 use Rattle.rules.specs.Aggregates.{any_within, waiting, base_moment}
 use Rattle.rules.specs.Limits.{moment_limit}

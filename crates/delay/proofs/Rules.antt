@@ -5,7 +5,7 @@ use mathlib.Core.List.{List, [], ◌∷◌}
 use mathlib.Core.Option.{none, some}
 use lib.Dec.{leb, ltb, eqb}
 use lib.ListN.{length}
-use Rattle.rules.specs.Basics.{if◌then◌else◌}
+use Rattle.std.specs.Prelude.{if◌then◌else◌}
 use Rattle.rules.specs.State.{Event, Held, SideState}
 use Rattle.rules.specs.Aggregates.{waiting, within, base_moment, base_window, buffer_window, tail_of, burst_tail, on_expire, on_replace, on_delayed, test_sums}
 use Rattle.delay.specs.Waiting.{tail_over, burst_tail_over}

@@ -1,8 +1,7 @@
 -- The declared types of the aggregate tests as the rules' values, and the tests with their margins and their sum handed in. Assumes nothing.
-use Rattle.std.specs.Prelude.{ℕ, ◌-◌, ◌≡◌, Bool, ◌&&◌, not, eqb}
+use Rattle.std.specs.Prelude.{ℕ, ◌-◌, ◌≡◌, Bool, ◌&&◌, not, eqb, if◌then◌else◌}
 use mathlib.Core.List.{List, [], tail}
 use Rattle.std.proofs.Math.Option.{Option, none, some}
-use Rattle.rules.specs.Basics.{if◌then◌else◌}
 use Rattle.rules.specs.Aggregates.{some_sum, any_within, waiting, within, base_moment, buffer_window, base_window, adjacent_window}
 use Rattle.rules.specs.State.{SideState, queue, with_queue, with_queues}
 use Rattle.queue.specs.Heads.{chain_at}

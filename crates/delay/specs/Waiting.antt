@@ -1,7 +1,7 @@
 -- What waits at a side of the lent words, chain by chain, and the tail of a burst with its margin handed in. Assumes nothing.
-use Rattle.std.specs.Prelude.{ℕ, ◌-◌, max, Bool, leb, ltb, length}
+use Rattle.std.specs.Prelude.{ℕ, ◌-◌, max, Bool, leb, ltb, length, if◌then◌else◌}
 use mathlib.Core.List.{List, [], ◌∷◌, tail}
-use Rattle.rules.specs.Basics.{Side, if◌then◌else◌}
+use Rattle.rules.specs.Basics.{Side}
 use Rattle.rules.specs.State.{Event, Held, SideState, queue, side}
 use Rattle.rules.specs.Aggregates.{any_within, waiting}
 use Rattle.layout.specs.Layout.{state_from}

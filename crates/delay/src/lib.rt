@@ -1,5 +1,7 @@
 // The three aggregate tests of delay.rs. Margins and sum are handed in.
 // What stands for each type in the rules is in specs/Tests; that the tests are the rules' own at the usual margins, in proofs/Rules.
+#![tactic(auto)]
+
 ghost use Rattle.std.specs.Prelude.{◌≡◌, ◌<◌, ◌≤◌, length};
 ghost use Rattle.rules.specs.Aggregates.{base_moment, within};
 ghost use Rattle.rules.specs.Limits.{moment_limit};
@@ -16,14 +18,14 @@ use queue_event::words;
 pub mod waiting;
 
 // A length that is to be aggregated, or none.
-#[derive(Drop)]
+#[derive(Clone, Copy)]
 pub enum Delayed {
     Nothing,
     By(Length),
 }
 
 // The margins of the tests.
-#[derive(Drop)]
+#[derive(Clone, Copy)]
 pub struct Margins {
     pub buffer: Length,
     pub base: Length,
@@ -31,21 +33,21 @@ pub struct Margins {
 }
 
 // The base head's moment with a sum added, if there is a base head and the sum was formed.
-#[derive(Drop)]
+#[derive(Clone, Copy)]
 pub enum Base {
     Nothing,
     At(Moment),
 }
 
 // What a test found: the length to be aggregated, and the sum that it formed.
-#[derive(Drop)]
+#[derive(Clone, Copy)]
 pub struct Tested {
     pub by: Delayed,
     pub base: Base,
 }
 
 // Whether a test holds, and the sum that it formed.
-#[derive(Drop)]
+#[derive(Clone, Copy)]
 pub struct Asked {
     pub yes: bool,
     pub base: Base,

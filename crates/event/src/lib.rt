@@ -1,6 +1,8 @@
 // Events, actions and pending aggregates as they travel between calls, and their kinds.
 // specs/HandedIn says what the rules call each struct. In prose only: which number a constant stands for, and that
 // `kind`, `moment`, `delay` and `padding` are `event`, `time`, `integration_delay` and `contains_padding` of the source.
+#![tactic(auto)]
+
 ghost use Rattle.std.specs.Prelude.{◌≡◌, leb};
 ghost use Rattle.event.specs.HandedIn.{has_machine_no, is_action_no};
 
@@ -9,7 +11,7 @@ pub mod answer;
 use moment::{Length, Moment};
 
 // The kind of an event. It may hold any number, so that one above the limit can be refused.
-#[derive(Drop)]
+#[derive(Clone, Copy)]
 pub struct Kind(pub u64);
 
 impl Kind {
@@ -76,7 +78,7 @@ impl Kind {
 }
 
 // The kind of an action. It may hold any number, `Cancel` (0) and `UpdateTimer` (3) too.
-#[derive(Drop)]
+#[derive(Clone, Copy)]
 pub struct ActionKind(pub u64);
 
 impl ActionKind {
@@ -101,7 +103,7 @@ impl ActionKind {
 }
 
 // An event of a side: the client's, or else the server's.
-#[derive(Drop)]
+#[derive(Clone, Copy)]
 pub struct SimEvent {
     pub kind: Kind,
     pub moment: Moment,
@@ -114,7 +116,7 @@ pub struct SimEvent {
 }
 
 // What a machine's slot holds. Only `BlockOutgoing` has a duration.
-#[derive(Drop)]
+#[derive(Clone, Copy)]
 pub struct ScheduledAction {
     pub kind: ActionKind,
     pub moment: Moment,
@@ -124,7 +126,7 @@ pub struct ScheduledAction {
 }
 
 // A length that is added to a side's sum once its moment has come (`PendingAggregateDelay`).
-#[derive(Drop)]
+#[derive(Clone, Copy)]
 pub struct AggregateDelay {
     pub moment: Moment,
     pub length: Length,

@@ -1,7 +1,6 @@
 -- An accepted state, apart from the words: sound, settings inside their limits, the room rule, and each record once.
-use Rattle.std.specs.Prelude.{ℕ, ◌+◌, ◌≤◌, ◌≡◌, eqb, length}
+use Rattle.std.specs.Prelude.{ℕ, ◌+◌, ◌≤◌, ◌≡◌, eqb, length, if◌then◌else◌}
 use Rattle.std.proofs.Math.Option.{Option, none, some}
-use Rattle.rules.specs.Basics.{if◌then◌else◌}
 use Rattle.rules.specs.State.{State, Settings, used, reserved}
 use Rattle.rules.specs.Limits.{moment_limit, duration_limit, rate_limit, record_limit}
 use Rattle.laws.specs.Sound.{Sound}
@@ -16,8 +15,8 @@ RateOk (some p) = (1 ≤ p) × (p ≤ rate_limit)
 pub record SettingsOk (v : Settings) : Type 0 where
   pub network : v.network_delay ≤ duration_limit
   pub window : v.window ≤ duration_limit
-  pub network_rate_lem : RateOk v.network_rate
-  pub queue_rate_lem : RateOk v.queue_rate
+  pub network_rate_fits : RateOk v.network_rate
+  pub queue_rate_fits : RateOk v.queue_rate
 
 -- every record is used or free
 abbrev pub Whole : State → Type 0

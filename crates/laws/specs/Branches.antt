@@ -1,8 +1,7 @@
 -- What holds of both branches of a choice between two values, and of tests joined by and, or.
-use Rattle.std.specs.Prelude.{◌≡◌, refl, Bool, true, false, ◌&&◌, ◌||◌}
+use Rattle.std.specs.Prelude.{◌≡◌, refl, Bool, true, false, ◌&&◌, ◌||◌, if◌then◌else◌}
 use Rattle.std.proofs.lemmas.Bool.{false≢true}
 use Rattle.std.proofs.Common.{true≢false}
-use Rattle.rules.specs.Basics.{if◌then◌else◌}
 
 -- a property of both branches is one of the whole
 pub by_if : {A : Type 0} (P : A → Type 0) (b : Bool) {a c : A} → P a → P c → P (if b then a else c)

@@ -1,12 +1,11 @@
 -- The one law of a call that demand 3 rests on: what any call on an accepted state keeps.
-use Rattle.std.specs.Prelude.{ℕ, ◌+◌, ◌≤◌, ◌≡◌, false}
+use Rattle.std.specs.Prelude.{ℕ, ◌+◌, ◌≤◌, ◌≡◌, false, if◌then◌else◌}
 use Rattle.std.proofs.Math.Path.{subst⁻¹}
 use Rattle.std.proofs.Common.{arith}
 use Rattle.rules.specs.CallLists.{allowance_of, carried, is_refused, lacks_room, nothing_to_take, rounds_of, says_nothing}
 use Rattle.rules.specs.Arguments.{Call, pick_next}
 use Rattle.rules.specs.State.{State, rounds_left, total}
 use Rattle.rules.specs.Calls.{call}
-use Rattle.rules.specs.Basics.{if◌then◌else◌}
 use Rattle.laws.specs.Accepted.{Accepted}
 use Rattle.laws.specs.CallRuns.{CallRan, call_runs}
 use Rattle.laws.specs.AcceptedKept.{call_accepted}

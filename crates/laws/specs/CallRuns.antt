@@ -1,8 +1,8 @@
 -- A call, refused or not: the round total, the bound on rounds, and the room rule.
-use Rattle.std.specs.Prelude.{ℕ, ◌+◌, ◌≤◌, ◌≡◌, refl, Bool, true, false, List, [], ◌∷◌}
+use Rattle.std.specs.Prelude.{ℕ, ◌+◌, ◌≤◌, ◌≡◌, refl, Bool, true, false, List, [], ◌∷◌, if◌then◌else◌}
 use Rattle.std.proofs.Math.Option.{Option, none, some, some-ne-none}
 use Rattle.std.proofs.Common.{arith, ltb-false}
-use Rattle.rules.specs.Basics.{Side, kind_of, if◌then◌else◌}
+use Rattle.rules.specs.Basics.{Side, kind_of}
 use Rattle.rules.specs.State.{SideState, State, side, with_side, held, used, reserved}
 use Rattle.rules.specs.ChoiceRound.{fits, timer_cleared, no_timer, action_cleared, no_action}
 use Rattle.rules.specs.Choice.{Called}

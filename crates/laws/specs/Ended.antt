@@ -1,8 +1,8 @@
 -- The ended mark and the refusals: number 10 sets the mark; every other refusal has 0 rounds and changes nothing; every other answer keeps the mark.
-use Rattle.std.specs.Prelude.{ℕ, zero, suc, ◌+◌, ◌<◌, ◌≡◌, refl, ◌⊎◌, Bool, true, false, List, [], ◌∷◌, eqb, ltb}
+use Rattle.std.specs.Prelude.{ℕ, zero, suc, ◌+◌, ◌<◌, ◌≡◌, refl, ◌⊎◌, Bool, true, false, List, [], ◌∷◌, eqb, ltb, if◌then◌else◌}
 use Rattle.std.proofs.Common.{◌∙◌, ap, subst, sym, inl, inr, true≢false, arith}
 use Rattle.std.proofs.Math.Option.{Option, none, some}
-use Rattle.rules.specs.Basics.{kind_of, if◌then◌else◌}
+use Rattle.rules.specs.Basics.{kind_of}
 use Rattle.rules.specs.State.{State, side, rounds_left, with_ended}
 use Rattle.rules.specs.ChoiceRound.{Candidate, an_aggregate, a_block, an_event, a_timer, an_action, none_left, RoundOutcome, next, taken, nothing, passed, act, candidate, closed, fits, round_sums, round, no_timer, no_action, timer_cleared, action_cleared}
 use Rattle.rules.specs.Choice.{Answer, done, event, nothing_left, step_made, refused, Called, rounds, settle, choose}

@@ -110,8 +110,8 @@ opened_accepted o words g =
       settings = record {
         network = ltb-false duration_limit o.settings.network_delay e₅.0;
         window = ltb-false duration_limit o.settings.window e₅.1;
-        network_rate_lem = rate_ok o.settings.network_rate e₄.1;
-        queue_rate_lem = rate_ok o.settings.queue_rate e₃.1;
+        network_rate_fits = rate_ok o.settings.network_rate e₄.1;
+        queue_rate_fits = rate_ok o.settings.queue_rate e₃.1;
       };
       room = omega arith;
       some_room = ltb-true 0 n least.1;

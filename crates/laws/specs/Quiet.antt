@@ -13,10 +13,10 @@ use Rattle.laws.specs.Absent.{after_absent, earlier_absent, Early, absent_early}
 
 -- of one side
 pub record QuietSide (x : SideState) (now : ℕ) : Type 0 where
-  pub no_event_lem : queued x ≡ 0
-  pub no_block_lem : x.block_end ≡ none
-  pub no_timer_lem : Early now x.timers
-  pub no_action_lem : Early now (action_moments x)
+  pub no_events : queued x ≡ 0
+  pub no_blocks : x.block_end ≡ none
+  pub no_timers : Early now x.timers
+  pub no_actions : Early now (action_moments x)
 
 -- of both sides
 pub record Quiet (s : State) (now : ℕ) : Type 0 where
@@ -66,7 +66,7 @@ empty_none x = go x.queues.base x.queues.blocking x.queues.bypassable x.queues.i
 -- a quiet state offers no head
 pub quiet_offers : (s : State) (now : ℕ) → Quiet s now → offered s now ≡ none
 unfolding offered peek_queue queue_head first_by
-quiet_offers s now q = rw (empty_none s.client q.client.no_event_lem, empty_none s.server q.server.no_event_lem)
+quiet_offers s now q = rw (empty_none s.client q.client.no_events, empty_none s.server q.server.no_events)
 
 -- ---- all five absent: quiet
 
@@ -125,16 +125,16 @@ absent_quiet s now hs hi hb hn hq =
     let o = no_heads s now hs hi hb hn (free k) (delay_none now (λ (h : Head). h.moment) (offered s now) hq) in
     record {
       client = record {
-        no_event_lem = none_empty s.client o.0;
-        no_block_lem = k.0;
-        no_timer_lem = absent_early now s.client.timers t.0;
-        no_action_lem = absent_early now (action_moments s.client) a.0;
+        no_events = none_empty s.client o.0;
+        no_blocks = k.0;
+        no_timers = absent_early now s.client.timers t.0;
+        no_actions = absent_early now (action_moments s.client) a.0;
       };
       server = record {
-        no_event_lem = none_empty s.server o.1;
-        no_block_lem = k.1;
-        no_timer_lem = absent_early now s.server.timers t.1;
-        no_action_lem = absent_early now (action_moments s.server) a.1;
+        no_events = none_empty s.server o.1;
+        no_blocks = k.1;
+        no_timers = absent_early now s.server.timers t.1;
+        no_actions = absent_early now (action_moments s.server) a.1;
       };
     }
   where
@@ -166,13 +166,13 @@ quiet_test s now q =
     ap₂ (◌&&◌)
     (ap₂ (◌&&◌)
     (ap₂ (◌&&◌)
-    (eq-eqb (queued s.client + queued s.server) 0 (omega (arith, q.client.no_event_lem, q.server.no_event_lem)))
-    (ap₂ (◌&&◌) (ap (λ (o : Option ℕ). not (is_some o)) q.client.no_block_lem) (ap (λ (o : Option ℕ). not (is_some o)) q.server.no_block_lem)))
+    (eq-eqb (queued s.client + queued s.server) 0 (omega (arith, q.client.no_events, q.server.no_events)))
+    (ap₂ (◌&&◌) (ap (λ (o : Option ℕ). not (is_some o)) q.client.no_blocks) (ap (λ (o : Option ℕ). not (is_some o)) q.server.no_blocks)))
     (slots s.client q.client))
     (slots s.server q.server)
   where
     slots : (x : SideState) → QuietSide x now → no_slot now x ≡ true
-    slots x h = ap₂ (◌&&◌) (early_before now (action_moments x) h.no_action_lem) (early_before now x.timers h.no_timer_lem)
+    slots x h = ap₂ (◌&&◌) (early_before now (action_moments x) h.no_actions) (early_before now x.timers h.no_timers)
 
 -- and a state that passes it is quiet
 pub test_quiet : (s : State) (now : ℕ) → nothing_to_take s now ≡ true → Quiet s now
@@ -191,8 +191,8 @@ test_quiet s now h =
     quiet x n k g =
         let p = both (all_before now (action_moments x)) (all_before now x.timers) g in
         record {
-          no_event_lem = n;
-          no_block_lem = none_unset x.block_end k;
-          no_timer_lem = before_early now x.timers p.1;
-          no_action_lem = before_early now (action_moments x) p.0;
+          no_events = n;
+          no_blocks = none_unset x.block_end k;
+          no_timers = before_early now x.timers p.1;
+          no_actions = before_early now (action_moments x) p.0;
         }

@@ -29,7 +29,7 @@ Shows s now none_left = Quiet s now
 
 shows_block : (s : State) (now : ℕ) (o : Option Block) → Found s (or_none a_block o) → (o ≡ none → ⊥) → Shows s now (or_none a_block o)
 shows_block s now none f h = absurd (h refl)
-shows_block s now (some k) f h = λ q. none-ne-some k.end (sym (quiet_side q k.side).no_block_lem ∙ f)
+shows_block s now (some k) f h = λ q. none-ne-some k.end (sym (quiet_side q k.side).no_blocks ∙ f)
 
 shows_event : (s : State) (now : ℕ) (o : Option Head) → offered s now ≡ o → (o ≡ none → ⊥) → Shows s now (or_none an_event o)
 shows_event s now none e h = absurd (h refl)
@@ -58,8 +58,8 @@ shows_timer s now (after d) e h =
     go :
         (c r : Option ℕ) → At s.client.timers (now + d) c → At s.server.timers (now + d) r → There c ⊎ There r
         → Shows s now (or_none (λ (z : Slot). a_timer z (now + d)) (slot_of c r))
-    go (some m) r hc hr t = λ q. omega (arith, early_at now s.client.timers m q.client.no_timer_lem hc)
-    go none (some m) hc hr t = λ q. omega (arith, early_at now s.server.timers m q.server.no_timer_lem hr)
+    go (some m) r hc hr t = λ q. omega (arith, early_at now s.client.timers m q.client.no_timers hc)
+    go none (some m) hc hr t = λ q. omega (arith, early_at now s.server.timers m q.server.no_timers hr)
     go none none hc hr (inl t) = absurd t
     go none none hc hr (inr t) = absurd t
 
@@ -90,10 +90,10 @@ shows_action s now (after d) e h =
         → Shows s now (or_none (action_from s) (slot_of c r))
     go (some m) r hc hr t =
         shows_from s now _ (get_or s.client.actions m none) (in_slot s.client.actions m (now + d) hc)
-        (λ q. omega (arith, early_at now (action_moments s.client) m q.client.no_action_lem hc))
+        (λ q. omega (arith, early_at now (action_moments s.client) m q.client.no_actions hc))
     go none (some m) hc hr t =
         shows_from s now _ (get_or s.server.actions m none) (in_slot s.server.actions m (now + d) hr)
-        (λ q. omega (arith, early_at now (action_moments s.server) m q.server.no_action_lem hr))
+        (λ q. omega (arith, early_at now (action_moments s.server) m q.server.no_actions hr))
     go none none hc hr (inl t) = absurd t
     go none none hc hr (inr t) = absurd t
 
@@ -153,7 +153,7 @@ unfolding put_event
 put_loud t e now q =
     let z : Side = e.value.side in
     let x : SideState = push_side (side t z) (chain_of e.value) e in
-    let n : queued (side (with_side t z x) z) ≡ 0 = (quiet_side q z).no_event_lem in
+    let n : queued (side (with_side t z x) z) ≡ 0 = (quiet_side q z).no_events in
     let m : queued (side (with_side t z x) z) ≡ queued x = ap queued (side_with t z x) in
     omega (arith, queued_push (side t z) (chain_of e.value) e)
 
@@ -167,17 +167,17 @@ summed_quiet :
 summed_quiet s client n l f now = (λ q. record { client = same q.client; server = q.server }, λ q. record { client = back q.client; server = q.server })
   where
     same : QuietSide (with_sum s.client n) now → QuietSide s.client now
-    same q = record { no_event_lem = q.no_event_lem; no_block_lem = q.no_block_lem; no_timer_lem = q.no_timer_lem; no_action_lem = q.no_action_lem }
+    same q = record { no_events = q.no_events; no_blocks = q.no_blocks; no_timers = q.no_timers; no_actions = q.no_actions }
 
     back : QuietSide s.client now → QuietSide (with_sum s.client n) now
-    back q = record { no_event_lem = q.no_event_lem; no_block_lem = q.no_block_lem; no_timer_lem = q.no_timer_lem; no_action_lem = q.no_action_lem }
+    back q = record { no_events = q.no_events; no_blocks = q.no_blocks; no_timers = q.no_timers; no_actions = q.no_actions }
 summed_quiet s server n l f now = (λ q. record { client = q.client; server = same q.server }, λ q. record { client = q.client; server = back q.server })
   where
     same : QuietSide (with_sum s.server n) now → QuietSide s.server now
-    same q = record { no_event_lem = q.no_event_lem; no_block_lem = q.no_block_lem; no_timer_lem = q.no_timer_lem; no_action_lem = q.no_action_lem }
+    same q = record { no_events = q.no_events; no_blocks = q.no_blocks; no_timers = q.no_timers; no_actions = q.no_actions }
 
     back : QuietSide s.server now → QuietSide (with_sum s.server n) now
-    back q = record { no_event_lem = q.no_event_lem; no_block_lem = q.no_block_lem; no_timer_lem = q.no_timer_lem; no_action_lem = q.no_action_lem }
+    back q = record { no_events = q.no_events; no_blocks = q.no_blocks; no_timers = q.no_timers; no_actions = q.no_actions }
 
 act_sees : (s : State) (now : ℕ) (c : Candidate) → Shows s now c → Sees s now (act s now c)
 unfolding take_aggregate do_action

@@ -1,9 +1,9 @@
 -- The places of a state, weighed: how queueing, adding, taking and stamping leave each record number as often as it was.
-use Rattle.std.specs.Prelude.{ℕ, suc, ◌+◌, ◌-◌, ◌≤◌, ◌<◌, ◌≡◌, refl, Bool, true, false, ltb, length}
+use Rattle.std.specs.Prelude.{ℕ, suc, ◌+◌, ◌-◌, ◌≤◌, ◌<◌, ◌≡◌, refl, Bool, true, false, ltb, length, if◌then◌else◌}
 use Rattle.std.proofs.Common.{sym, ap, ◌∙◌, arith}
 use mathlib.Core.List.{List, [], ◌∷◌, ◌++◌, tail, head?}
 use Rattle.std.proofs.Math.Option.{some, none-ne-some, some-injective}
-use Rattle.rules.specs.Basics.{if◌then◌else◌, before, rank, Side, client, server}
+use Rattle.rules.specs.Basics.{before, rank, Side, client, server}
 use Rattle.rules.specs.State.{Event, Held, in_record, Aggregate, Chain, base, blocking, bypassable, internal, Queues, SideState, State, queue, with_stamps, side, with_side, with_aggregates, with_free, free_place, side_used, used}
 use Rattle.rules.specs.ChoiceHeads.{Head}
 use Rattle.rules.specs.Queueing.{insert, push_side, put_event, push_event, chain_of}

@@ -1,9 +1,9 @@
 -- A round never lacks a free record: what it takes is reserved, and what is reserved is free.
-use Rattle.std.specs.Prelude.{ℕ, ◌+◌, ◌≤◌, ◌≡◌, refl, true, Bool, false, eqb, length}
+use Rattle.std.specs.Prelude.{ℕ, ◌+◌, ◌≤◌, ◌≡◌, refl, true, Bool, false, eqb, length, if◌then◌else◌}
 use Rattle.std.proofs.Common.{ap, arith}
 use mathlib.Core.List.{◌∷◌, tail, head?}
 use Rattle.std.proofs.Math.Option.{none, some}
-use Rattle.rules.specs.Basics.{Side, if◌then◌else◌}
+use Rattle.rules.specs.Basics.{Side}
 use Rattle.rules.specs.State.{Event, Held, Aggregate, SideState, State, with_sum, with_block, side, with_side, with_aggregates, one, reserved, Chain, base, blocking, bypassable, in_record, internal, queue, side_used, used}
 use Rattle.rules.specs.Queueing.{push_event}
 use Rattle.rules.specs.ChoiceDelays.{Block}

@@ -1,5 +1,5 @@
 -- The rounds of a choice one by one, as `finishedStates` has them: how many, what they leave, the room after each, and that fuel suffices.
-use Rattle.std.specs.Prelude.{ℕ, zero, suc, ◌+◌, ◌≤◌, ◌<◌, ◌≡◌, refl, true, false, not, Bool, ◌&&◌, List, [], ◌∷◌, length, get_or}
+use Rattle.std.specs.Prelude.{ℕ, zero, suc, ◌+◌, ◌≤◌, ◌<◌, ◌≡◌, refl, true, false, not, Bool, ◌&&◌, List, [], ◌∷◌, length, get_or, if◌then◌else◌}
 use Rattle.std.proofs.Common.{ap, ap₂, ◌∙◌, subst, sym, arith, le-leb}
 use Rattle.std.proofs.Math.Option.{Option, none, some}
 use Rattle.rules.specs.Choice.{Answer, Called, done, event, nothing_left, step_made, refused, rounds, settle, choose}
@@ -9,7 +9,7 @@ use Rattle.rules.specs.State.{State, reserved, rounds_left, used, with_ended}
 use Rattle.rules.specs.Effects.{after_step}
 use Rattle.rules.specs.CallLists.{all_have_room, carried, finished, finished_states, has_room, lacks_room, round_states, rounds_of, work_rounds}
 use Rattle.rules.specs.Calls.{call, unless_refused, work}
-use Rattle.rules.specs.Basics.{if◌then◌else◌, is_some, kind_of}
+use Rattle.rules.specs.Basics.{is_some, kind_of}
 use Rattle.rules.specs.Refusals.{refusal}
 use Rattle.laws.specs.Falls.{Falls, Kept, round_kept}
 use Rattle.laws.specs.Runs.{Makes, round_makes}

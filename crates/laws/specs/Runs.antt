@@ -1,7 +1,6 @@
 -- A round, and a choice: the round total counts the rounds made, with those to come they are bounded, and the room rule is kept.
-use Rattle.std.specs.Prelude.{ℕ, zero, suc, ◌+◌, ◌≤◌, ◌<◌, ◌≡◌, refl, Bool, true, false}
+use Rattle.std.specs.Prelude.{ℕ, zero, suc, ◌+◌, ◌≤◌, ◌<◌, ◌≡◌, refl, Bool, true, false, if◌then◌else◌}
 use Rattle.std.proofs.Common.{◌∙◌, arith}
-use Rattle.rules.specs.Basics.{if◌then◌else◌}
 use Rattle.rules.specs.State.{State, with_ended, used, reserved, rounds_left}
 use Rattle.rules.specs.Limits.{moment_limit}
 use Rattle.rules.specs.ChoiceRound.{RoundOutcome, next, taken, nothing, passed, act, closed, candidate, round, always_sums, round_sums, fits}

@@ -1,9 +1,9 @@
 -- Every call leaves a sound state.
-use Rattle.std.specs.Prelude.{ℕ, zero, suc, ◌≤◌, ◌<◌, ◌≡◌, refl, ◌⊎◌, Bool, true, false, ◌&&◌, List, [], ◌∷◌, leb, ltb, length, set, get_or}
+use Rattle.std.specs.Prelude.{ℕ, zero, suc, ◌≤◌, ◌<◌, ◌≡◌, refl, ◌⊎◌, Bool, true, false, ◌&&◌, List, [], ◌∷◌, leb, ltb, length, set, get_or, if◌then◌else◌}
 use Rattle.std.proofs.Common.{ap, ◌∙◌, subst, inl, inr, arith, length-set, leb-false, ltb-false}
 use Rattle.std.proofs.Math.Option
 use Rattle.std.proofs.Math.Option.{Option, none, some, map, none-ne-some, some-injective}
-use Rattle.rules.specs.Basics.{if◌then◌else◌, Side, client, server, Kind, kind_of, has_machine, has_machine_no}
+use Rattle.rules.specs.Basics.{Side, client, server, Kind, kind_of, has_machine, has_machine_no}
 use Rattle.rules.specs.State.{ActionKind, SendPadding, BlockOutgoing, SideState, State, with_timers, with_actions, with_ended, side, used}
 use Rattle.rules.specs.Limits.{moment_limit, duration_limit, delay_limit}
 use Rattle.rules.specs.Queueing.{chain_of}

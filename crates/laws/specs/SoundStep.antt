@@ -1,10 +1,10 @@
 -- A network step whose sums fit leaves a sound state.
-use Rattle.std.specs.Prelude.{ℕ, suc, ◌+◌, ◌-◌, ◌*◌, ◌≤◌, ◌≡◌, refl, Bool, true, false, ◌&&◌, ltb, length}
+use Rattle.std.specs.Prelude.{ℕ, suc, ◌+◌, ◌-◌, ◌*◌, ◌≤◌, ◌≡◌, refl, Bool, true, false, ◌&&◌, ltb, length, if◌then◌else◌}
 use Rattle.std.proofs.Common.{ap, arith, le_trans, mul-le-mul, div-le_self, lit≤, length-append}
 use Rattle.std.proofs.Math.Path.{subst⁻¹}
 use mathlib.Core.List.{List, [], ◌∷◌, ◌++◌, map, tail}
 use Rattle.std.proofs.Math.Option.{Option, none, some}
-use Rattle.rules.specs.Basics.{if◌then◌else◌, Side, client, server, other, Kind, has_machine, TunnelSent, NormalSent, PaddingSent, TunnelRecv, NormalRecv, PaddingRecv, BlockingBegin, BlockingEnd, TimerBegin, TimerEnd}
+use Rattle.rules.specs.Basics.{Side, client, server, other, Kind, has_machine, TunnelSent, NormalSent, PaddingSent, TunnelRecv, NormalRecv, PaddingRecv, BlockingBegin, BlockingEnd, TimerBegin, TimerEnd}
 use Rattle.rules.specs.State.{Event, Held, in_record, Aggregate, SideState, State, Fixed, with_stamps, free_place, side, with_side, queue}
 use Rattle.rules.specs.Limits.{moment_limit, duration_limit, delay_limit, record_limit}
 use Rattle.rules.specs.ChoiceHeads.{Head, waiting_head}

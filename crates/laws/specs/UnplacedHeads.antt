@@ -1,10 +1,10 @@
 -- What a round takes up reads values only: the heads, the delays and the candidate of a state without its record numbers.
-use Rattle.std.specs.Prelude.{ℕ, ◌+◌, ◌-◌, ◌≡◌, refl, Bool, get_or}
+use Rattle.std.specs.Prelude.{ℕ, ◌+◌, ◌-◌, ◌≡◌, refl, Bool, get_or, if◌then◌else◌}
 use Rattle.std.proofs.Common.{ap, ◌∙◌}
 use mathlib.Core.List.{List, [], ◌∷◌, head?}
 use Rattle.std.proofs.Math.Option
 use Rattle.std.proofs.Math.Option.{Option, none, some, map}
-use Rattle.rules.specs.Basics.{if◌then◌else◌, Delay, after, absent, ◌≤ᵈ◌, earlier, delay_to, Side, client, server}
+use Rattle.rules.specs.Basics.{Delay, after, absent, ◌≤ᵈ◌, earlier, delay_to, Side, client, server}
 use Rattle.rules.specs.State.{Event, Held, Action, Aggregate, Chain, base, blocking, bypassable, internal, SideState, State, side}
 use Rattle.rules.specs.ChoiceHeads.{Head, head_as, first_by, by_moment, by_raw_moment, by_delay, bypassable_head, blocking_head, internal_head, base_head, side_head, queue_head, waiting_head, passing_head, waiting_first, not_before, earliest_of_side, head_delay, earliest_blocked, held_back, peek_from, peek_queue}
 use Rattle.rules.specs.ChoiceDelays.{Delays, delays, offered, next_block, Block, action_delay, timer_delay, block_delay, aggregate_delay}

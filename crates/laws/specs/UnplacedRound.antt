@@ -1,9 +1,9 @@
 -- A round and a choice read values only: without record numbers the outcome is the same but for record numbers.
-use Rattle.std.specs.Prelude.{ℕ, zero, suc, ◌+◌, ◌-◌, max, ◌≡◌, refl, Bool, true, false, not, ◌&&◌, ◌||◌, leb, ltb, eqb, length}
+use Rattle.std.specs.Prelude.{ℕ, zero, suc, ◌+◌, ◌-◌, max, ◌≡◌, refl, Bool, true, false, not, ◌&&◌, ◌||◌, leb, ltb, eqb, length, if◌then◌else◌}
 use Rattle.std.proofs.Common.{sym, ap, ◌∙◌}
 use mathlib.Core.List.{List, [], ◌∷◌, ◌++◌, tail, map}
 use Rattle.std.proofs.Math.Option.{Option, none, some}
-use Rattle.rules.specs.Basics.{if◌then◌else◌, Side, client, server}
+use Rattle.rules.specs.Basics.{Side, client, server}
 use Rattle.rules.specs.State.{Event, Held, Action, ActionKind, SendPadding, BlockOutgoing, Aggregate, Chain, base, blocking, bypassable, internal, SideState, State, with_queue, with_queues, with_sum, with_block, side, with_side, with_aggregates, with_free, with_ended, rounds_left}
 use Rattle.rules.specs.ChoiceHeads.{Head, waiting_head}
 use Rattle.rules.specs.Queueing.{push_event}

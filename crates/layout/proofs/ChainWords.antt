@@ -100,8 +100,8 @@ module _ (h h' : List ℕ) (same : (i : ℕ) → Copied i → get_or h' i 0 ≡ 
       record {
         timer = rw t (g j l).timer;
         action = rw (a, m, d) (g j l).action;
-        no_timer_lem = rw (s, t) (g j l).no_timer_lem;
-        no_action_lem = rw (s, a) (g j l).no_action_lem;
+        no_timers = rw (s, t) (g j l).no_timers;
+        no_actions = rw (s, a) (g j l).no_actions;
       }
 
   pub machines_copied : (k : ℕ) → k < chain_count → machines_for h' k ≡ machines_for h k

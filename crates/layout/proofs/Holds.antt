@@ -86,7 +86,7 @@ module _ (h rs : List ℕ) (g : Good h rs) where
   settings_from : SettingsOk (state_from h rs).settings
   unfolding state_from bank
   settings_from =
-      record { network = low 0 (lit< tt); window = low 3 (lit< tt); network_rate_lem = rate_fits _ (low 1 (lit< tt)); queue_rate_lem = rate_fits _ (low 2 (lit< tt)) }
+      record { network = low 0 (lit< tt); window = low 3 (lit< tt); network_rate_fits = rate_fits _ (low 1 (lit< tt)); queue_rate_fits = rate_fits _ (low 2 (lit< tt)) }
 
   room_from : (state_from h rs).room ≡ length rs / 4
   unfolding state_from

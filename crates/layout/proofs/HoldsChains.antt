@@ -7,7 +7,8 @@ use native.Mathlib.Omega.{arith}
 use native.Mathlib.Decide.{ℕ_discrete}
 use lib.Dec.{eqb, ltb}
 use borrow.Author.Tests.{eqb-true, eqb-false, ltb-true, ltb-false, le-ltb, ne_eqb}
-use Rattle.rules.specs.Basics.{if◌then◌else◌, before, Side}
+use Rattle.std.specs.Prelude.{if◌then◌else◌}
+use Rattle.rules.specs.Basics.{before, Side}
 use Rattle.rules.specs.Limits.{moment_limit}
 use Rattle.rules.specs.State.{Held, Aggregate, Event, Chain, base, blocking, bypassable, internal}
 use Rattle.laws.specs.Fits.{All}

@@ -79,7 +79,7 @@ module _ (h : List ℕ) (ok : SlotsOk h) (n : ℕ) (small : n < 2) where
       each m a l e =
           let o = ok (16 * n + m) (omega arith) in
           let q = timer_some (timer_of h (16 * n + m)) a o.timer (sym (ap less_one (bank_at 64 32 h (16 * n + m) (omega arith))) ∙ e) in
-          (q.0, there m l (λ p. q.1 (o.no_timer_lem (slot_machines m l p))))
+          (q.0, there m l (λ p. q.1 (o.no_timers (slot_machines m l p))))
 
   pub actions_fit : SlotsFit ActionFits (machines_of h n) (actions_from n (bank 96 96 h))
   actions_fit = slots_fit ActionFits (machines_of h n) (λ m. action_from (bank 96 96 h (3 * (16 * n + m))) (bank 96 96 h (1 + 3 * (16 * n + m))) (bank 96 96 h (2 + 3 * (16 * n + m)))) each
@@ -88,4 +88,4 @@ module _ (h : List ℕ) (ok : SlotsOk h) (n : ℕ) (small : n < 2) where
       each m a l e =
           let o = ok (16 * n + m) (omega arith) in
           let q = action_some (action_of h (16 * n + m)) (action_moment h (16 * n + m)) (action_duration h (16 * n + m)) a o.action (sym (action_bank h (16 * n + m) (omega arith)) ∙ e) in
-          (q.0, there m l (λ p. q.1 (o.no_action_lem (slot_machines m l p))))
+          (q.0, there m l (λ p. q.1 (o.no_actions (slot_machines m l p))))

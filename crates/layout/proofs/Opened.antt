@@ -8,7 +8,7 @@ use native.Mathlib.Omega.{arith}
 use lib.Dec.{eqb, ltb, leb, lit<}
 use lib.ListN.{length, get_or}
 use borrow.Author.Tests.{not-false, eqb-true, ltb-true, ltb-false, ne_eqb}
-use Rattle.rules.specs.Basics.{if◌then◌else◌}
+use Rattle.std.specs.Prelude.{if◌then◌else◌}
 use Rattle.rules.specs.Limits.{record_limit}
 use Rattle.rules.specs.State.{State}
 use Rattle.rules.specs.Opening.{Opening, open_side, records_in, open_refusal, opened, outside, up_from, wrong_length}
@@ -101,8 +101,8 @@ module _ (o : Opening) (n : ℕ) where
       record {
         timer = omega arith;
         action = rw (a, m, d) (record { shape = empty_canonical; moments = omega arith; durations = omega arith });
-        no_timer_lem = λ e. t;
-        no_action_lem = λ e. a;
+        no_timers = λ e. t;
+        no_actions = λ e. a;
       }
 
   slots_none : (m : ℕ) → m ≤ 32 → slots_room (open_head o n) m ≡ 0
@@ -202,9 +202,9 @@ module _ (o : Opening) (n : ℕ) (fine : open_refusal n o ≡ none) where
   limits_open i l = rw (head_at o n i (omega arith)) (each_at 18 (λ j. head_word o (records_in n) j ≤ get_or limits j 0) (
     settings_ok.network,
     (
-      rate_limit_lem o.settings.network_rate settings_ok.network_rate_lem,
+      rate_limit_lem o.settings.network_rate settings_ok.network_rate_fits,
       (
-        rate_limit_lem o.settings.queue_rate settings_ok.queue_rate_lem,
+        rate_limit_lem o.settings.queue_rate settings_ok.queue_rate_fits,
         (
           settings_ok.window,
           (
@@ -265,7 +265,7 @@ module _ (o : Opening) (n : ℕ) (fine : open_refusal n o ≡ none) where
   unfolding opened
   opened_state =
       ap₂ state_from (opened_head o n) (opened_rest o n) ∙ state_built o n
-      ∙ (λ d. opened (reread o n (rate_back o.settings.network_rate settings_ok.network_rate_lem d) (rate_back o.settings.queue_rate settings_ok.queue_rate_lem d)) n)
+      ∙ (λ d. opened (reread o n (rate_back o.settings.network_rate settings_ok.network_rate_fits d) (rate_back o.settings.queue_rate settings_ok.queue_rate_fits d)) n)
 
   pub opened_size : length (opened_words o n) ≡ n
   opened_size = opened_length o n ∙ sym length_is

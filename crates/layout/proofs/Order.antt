@@ -6,7 +6,8 @@ use mathlib.Core.List.{List, [], ◌∷◌, map}
 use native.Mathlib.Omega.{arith}
 use lib.Dec.{ltb, eqb}
 use borrow.Author.Tests.{ltb-true, ltb-false, eqb-true, eqb-false, not-true, not-false}
-use Rattle.rules.specs.Basics.{if◌then◌else◌, before, Side, has_machine, is_tunnel_sent, rank}
+use Rattle.std.specs.Prelude.{if◌then◌else◌}
+use Rattle.rules.specs.Basics.{before, Side, has_machine, is_tunnel_sent, rank}
 use Rattle.rules.specs.Queueing.{chain_for, insert}
 use Rattle.rules.specs.State.{base, blocking, bypassable, internal}
 use Rattle.queue_event.specs.Chain.{pick, rank_of, Node}

@@ -8,7 +8,8 @@ use native.Mathlib.Omega.{arith}
 use lib.Dec.{ltb, lit<}
 use lib.ListN.{length, get_or, take, drop, replicate}
 use borrow.Author.Tests.{ltb-true}
-use Rattle.rules.specs.Basics.{if◌then◌else◌, Side, client, server}
+use Rattle.std.specs.Prelude.{if◌then◌else◌}
+use Rattle.rules.specs.Basics.{Side, client, server}
 use Rattle.rules.specs.State.{Held, in_record, SideState, queued, side_used, used as used_of}
 use Rattle.rules.specs.Opening.{up_from}
 use Rattle.rules.specs.Packing.{numbered, packed_side, packed}

@@ -98,7 +98,7 @@ fit_aggregates c (x ∷ l) s h = (
 pub order_none : (k m r : ℕ) (l : List Node) → k % 5 ≡ 0 → Ordered k m r l
 unfolding Ordered
 order_none k m r [] e = tt
-order_none k m r (x ∷ l) e = (record { moments = λ p. absurd (omega arith); ranks = λ p q. absurd (omega arith) }, order_none k _ _ l e)
+order_none k m r (x ∷ l) e = (record { moments = λ p. absurd (omega arith); ranks = λ p q. absurd (omega arith) }, order_none k x.rec.moment (kind_field x.rec.tag) l e)
 
 not_before_lem : (a r b s : ℕ) → not (before b s a r) ≡ true → (a ≤ b) × (a ≡ b → r ≤ s)
 not_before_lem a r b s = go (ltb b a) refl (eqb b a) refl (ltb s r) refl

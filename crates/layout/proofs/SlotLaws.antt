@@ -63,8 +63,8 @@ module _ (h h' : List ℕ) (j : ℕ) (change : SlotChange h h' j) where
       record {
         timer = rw (change.timers k n l) ok.timer;
         action = rw (change.actions k n l, change.moments k n l, change.durations k n l) ok.action;
-        no_timer_lem = rw (change.low (8 + k / 16) (omega arith), change.timers k n l) ok.no_timer_lem;
-        no_action_lem = rw (change.low (8 + k / 16) (omega arith), change.actions k n l) ok.no_action_lem;
+        no_timers = rw (change.low (8 + k / 16) (omega arith), change.timers k n l) ok.no_timers;
+        no_actions = rw (change.low (8 + k / 16) (omega arith), change.actions k n l) ok.no_actions;
       }
 
   slots_kept : SlotOk h' j → SlotsOk h → SlotsOk h'
@@ -137,8 +137,8 @@ module _ (h rs : List ℕ) (i v : ℕ) (low : 9 < i) (high : i < 18) (wide : len
       record {
         timer = rw (word_other (64 + j) (λ e. omega arith)) (g j l).timer;
         action = rw (word_other (96 + 3 * j) (λ e. omega arith), word_other (97 + 3 * j) (λ e. omega arith), word_other (98 + 3 * j) (λ e. omega arith)) (g j l).action;
-        no_timer_lem = rw (word_other (8 + j / 16) (λ e. omega arith), word_other (64 + j) (λ e. omega arith)) (g j l).no_timer_lem;
-        no_action_lem = rw (word_other (8 + j / 16) (λ e. omega arith), word_other (96 + 3 * j) (λ e. omega arith)) (g j l).no_action_lem;
+        no_timers = rw (word_other (8 + j / 16) (λ e. omega arith), word_other (64 + j) (λ e. omega arith)) (g j l).no_timers;
+        no_actions = rw (word_other (8 + j / 16) (λ e. omega arith), word_other (96 + 3 * j) (λ e. omega arith)) (g j l).no_actions;
       }
 
   word_limits : Limited (set h i v)

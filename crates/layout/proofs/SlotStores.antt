@@ -41,8 +41,8 @@ module _ (j v : ℕ) (small : j < 32) (h : List ℕ) (wide : length h ≡ 256) w
       record {
         timer = rw timer_now a;
         action = rw (far h (64 + j) v (96 + 3 * j) (omega arith), far h (64 + j) v (97 + 3 * j) (omega arith), far h (64 + j) v (98 + 3 * j) (omega arith)) ok.action;
-        no_timer_lem = rw (far h (64 + j) v (8 + j / 16) (omega arith)) (omega arith);
-        no_action_lem = rw (far h (64 + j) v (8 + j / 16) (omega arith)) (omega arith);
+        no_timers = rw (far h (64 + j) v (8 + j / 16) (omega arith)) (omega arith);
+        no_actions = rw (far h (64 + j) v (8 + j / 16) (omega arith)) (omega arith);
       }
 
   pub timer_good : (rs : List ℕ) → v ≤ suc moment_limit → j % 16 < machines_of h (j / 16) → used h rs + reserved (put_timer j v h) ≤ room rs → Good h rs → Good (put_timer j v h) rs
@@ -89,8 +89,8 @@ module _ (j a m d : ℕ) (small : j < 32) (h : List ℕ) (wide : length h ≡ 25
       record {
         timer = rw (kept (64 + j) (omega arith) (omega arith) (omega arith)) ok.timer;
         action = rw (action_now, moment_now, duration_now) fine;
-        no_timer_lem = rw (kept (8 + j / 16) (omega arith) (omega arith) (omega arith)) (omega arith);
-        no_action_lem = rw (kept (8 + j / 16) (omega arith) (omega arith) (omega arith)) (omega arith);
+        no_timers = rw (kept (8 + j / 16) (omega arith) (omega arith) (omega arith)) (omega arith);
+        no_actions = rw (kept (8 + j / 16) (omega arith) (omega arith) (omega arith)) (omega arith);
       }
 
   pub action_good : (rs : List ℕ) → ActionOk a m d → j % 16 < machines_of h (j / 16) → used h rs + reserved (put_action j a m d h) ≤ room rs → Good h rs → Good (put_action j a m d h) rs

@@ -66,8 +66,8 @@ pub record SlotEmpty (h : List ℕ) (j : ℕ) : Type 0 where
 pub record SlotOk (h : List ℕ) (j : ℕ) : Type 0 where
   pub timer : timer_of h j ≤ suc moment_limit
   pub action : ActionOk (action_of h j) (action_moment h j) (action_duration h j)
-  pub no_timer_lem : machines_of h (j / 16) ≤ j % 16 → timer_of h j ≡ 0
-  pub no_action_lem : machines_of h (j / 16) ≤ j % 16 → action_of h j ≡ 0
+  pub no_timers : machines_of h (j / 16) ≤ j % 16 → timer_of h j ≡ 0
+  pub no_actions : machines_of h (j / 16) ≤ j % 16 → action_of h j ≡ 0
 
 abbrev pub SlotsOk : List ℕ → Type 0
 SlotsOk h = (j : ℕ) → j < 32 → SlotOk h j

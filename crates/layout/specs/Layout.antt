@@ -1,8 +1,8 @@
 -- The lent words read as a state of the rules: docs/LAYOUT.md as definitions, line by line. Any words are read; which of them are a state says Accepted.
 -- Assumes nothing.
-use Rattle.std.specs.Prelude.{ℕ, zero, suc, ◌+◌, ◌*◌, ◌/◌, ◌%◌, List, [], ◌∷◌, map, ltb, eqb, length, get_or, take, drop}
+use Rattle.std.specs.Prelude.{ℕ, zero, suc, ◌+◌, ◌*◌, ◌/◌, ◌%◌, List, [], ◌∷◌, map, ltb, eqb, length, get_or, take, drop, if◌then◌else◌}
 use Rattle.std.proofs.Math.Option.{Option, none, some}
-use Rattle.rules.specs.Basics.{if◌then◌else◌, Side, client, server}
+use Rattle.rules.specs.Basics.{Side, client, server}
 use Rattle.rules.specs.State.{Event, Action, ActionKind, SendPadding, BlockOutgoing, Aggregate, Held, in_record, SideState, State}
 use Rattle.queue_event.specs.Chain.{Rec, Node, nodes}
 use Rattle.queue_event.specs.Tag.{kind_field, padding_field, bypass_field, replace_field, side_field, machine_field, flag}

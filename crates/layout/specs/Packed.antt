@@ -1,7 +1,6 @@
 -- Document 02, M-100: every word of a block in its packed form, as docs/LAYOUT.md orders them. Chains in the order of their numbers, records numbered upward
 -- from 1, the free chain last, words without a meaning 0. Assumes nothing.
-use Rattle.std.specs.Prelude.{ℕ, zero, suc, ◌+◌, ◌-◌, ◌*◌, ◌/◌, ◌%◌, ◌&&◌, List, [], ◌∷◌, ◌++◌, eqb, leb, ltb, length, get_or, replicate, take, drop}
-use Rattle.rules.specs.Basics.{if◌then◌else◌}
+use Rattle.std.specs.Prelude.{ℕ, zero, suc, ◌+◌, ◌-◌, ◌*◌, ◌/◌, ◌%◌, ◌&&◌, List, [], ◌∷◌, ◌++◌, eqb, leb, ltb, length, get_or, replicate, take, drop, if◌then◌else◌}
 use Rattle.queue_event.specs.Chain.{Rec, contents}
 use Rattle.layout.specs.Records.{chain_count, head_of, count_of}
 use Rattle.layout.specs.Accepted.{room}

@@ -1,7 +1,6 @@
 -- What the exported opening promises: the promise of opening, and its answer as a number. Assumes nothing.
-use Rattle.std.specs.Prelude.{ℕ, ◌≡◌, List}
+use Rattle.std.specs.Prelude.{ℕ, ◌≡◌, List, if◌then◌else◌}
 use Rattle.std.proofs.Math.Option.{Option, none, some}
-use Rattle.rules.specs.Basics.{if◌then◌else◌}
 use Rattle.rules.specs.State.{Fixed}
 use Rattle.rules.specs.Choice.{Answer}
 use Rattle.rules.specs.Opening.{Opening}

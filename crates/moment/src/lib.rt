@@ -1,11 +1,13 @@
 // A moment and a length of time, as Instant and Duration are: whole nanoseconds, added only by named operations.
+#![tactic(auto)]
+
 ghost use Rattle.std.specs.Prelude.{◌≡◌, ◌+◌, ◌-◌, ◌*◌, ◌/◌, ◌^◌, ◌<◌, ◌≤◌, max, leb, ltb};
 ghost use Rattle.rules.specs.Limits.{moment_limit, delay_limit, duration_limit};
 
-#[derive(Drop)]
+#[derive(Clone, Copy)]
 pub struct Moment(pub u64);
 
-#[derive(Drop)]
+#[derive(Clone, Copy)]
 pub struct Length(pub u64);
 
 impl Moment {

@@ -8,7 +8,8 @@ use mathlib.Core.Option.{Option, none, some}
 use native.Mathlib.Omega.{arith}
 use lib.Dec.{lit<}
 use lib.ListN.{length, get_or}
-use Rattle.rules.specs.Basics.{Side, client, server, if◌then◌else◌}
+use Rattle.std.specs.Prelude.{if◌then◌else◌}
+use Rattle.rules.specs.Basics.{Side, client, server}
 use Rattle.rules.specs.State.{Event, SideState, State, side, with_side}
 use Rattle.rules.specs.Aggregates.{aggregates_of, on_replace, test_sums, some_sum}
 use Rattle.rules.specs.ChoiceHeads.{Head, waiting_head}

@@ -6,7 +6,8 @@ use mathlib.Core.List.{List, [], ◌∷◌, tail, head?}
 use mathlib.Core.Option.{Option, none, some}
 use native.Mathlib.Omega.{arith}
 use lib.ListN.{length, length-append}
-use Rattle.rules.specs.Basics.{Side, TunnelSent, client, server, if◌then◌else◌}
+use Rattle.std.specs.Prelude.{if◌then◌else◌}
+use Rattle.rules.specs.Basics.{Side, TunnelSent, client, server}
 use Rattle.rules.specs.State.{Aggregate, Chain, Event, Held, SideState, State, base, blocking, bypassable, internal, free_place, in_record, queue, queued, side, used, with_side, with_stamps}
 use Rattle.rules.specs.Aggregates.{add_aggregates, aggregates_of, on_replace}
 use Rattle.rules.specs.ChoiceHeads.{Head, waiting_head}

@@ -11,7 +11,8 @@ use lib.ListN.{length}
 use borrow.Author.Tests.{lt-ltb, le-ltb}
 use mir.Val.{Fits}
 use mir.Syntax.{w64}
-use Rattle.rules.specs.Basics.{Side, client, server, if◌then◌else◌}
+use Rattle.std.specs.Prelude.{if◌then◌else◌}
+use Rattle.rules.specs.Basics.{Side, client, server}
 use Rattle.rules.specs.State.{Held, side}
 use Rattle.rules.specs.Limits.{duration_limit}
 use Rattle.rules.specs.NetworkStep.{stamps_kept, extra_over, rate_of}

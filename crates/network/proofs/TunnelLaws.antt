@@ -8,7 +8,8 @@ use native.Mathlib.Omega.{arith}
 use lib.Dec.{leb, ltb, lit<}
 use lib.ListN.{length, get_or, length-append}
 use borrow.Author.Tests.{lt-ltb}
-use Rattle.rules.specs.Basics.{Side, client, server, other, if◌then◌else◌, TunnelRecv}
+use Rattle.std.specs.Prelude.{if◌then◌else◌}
+use Rattle.rules.specs.Basics.{Side, client, server, other, TunnelRecv}
 use Rattle.rules.specs.State.{Event, SideState, State, side}
 use Rattle.rules.specs.Limits.{moment_limit, duration_limit}
 use Rattle.rules.specs.Aggregates.{aggregates_of, on_delayed, test_sums, some_sum}

@@ -7,7 +7,7 @@ use mathlib.Core.Logic.{◌⊎◌, inl, inr}
 use mathlib.Core.Option.{Option, none, some}
 use native.Mathlib.Omega.{arith}
 use borrow.Author.Tests.{ne_eqb}
-use Rattle.rules.specs.Basics.{if◌then◌else◌}
+use Rattle.std.specs.Prelude.{if◌then◌else◌}
 use Rattle.rules.specs.State.{Chain, Event, Held, SideState, base, blocking, bypassable, internal}
 use Rattle.rules.specs.ChoiceHeads.{Head, by_moment, first_by, head_as, waiting_head}
 use Rattle.queue.specs.declared.peek.Head.{Head as HeadFound}

@@ -1,8 +1,8 @@
 -- What a step of `TunnelSent` and of `PaddingSent` is to do, worked out before anything is written: the rules' step_tunnel and step_padding with the
 -- work left out. proofs/TunnelLaws and proofs/PaddingLaws put the two together again. Assumes nothing.
-use Rattle.std.specs.Prelude.{ℕ, ◌+◌, ◌≤◌, ◌≡◌, ◌&&◌, false, true, List, [], ◌++◌, ◌∷◌, ltb, length}
+use Rattle.std.specs.Prelude.{ℕ, ◌+◌, ◌≤◌, ◌≡◌, ◌&&◌, false, true, List, [], ◌++◌, ◌∷◌, ltb, length, if◌then◌else◌}
 use Rattle.std.proofs.Math.Option.{Option, none, some}
-use Rattle.rules.specs.Basics.{Side, other, if◌then◌else◌, client, TunnelSent, PaddingSent, TunnelRecv}
+use Rattle.rules.specs.Basics.{Side, other, client, TunnelSent, PaddingSent, TunnelRecv}
 use Rattle.rules.specs.State.{Event, SideState, State, in_record, side}
 use Rattle.rules.specs.Limits.{moment_limit, duration_limit, delay_limit}
 use Rattle.rules.specs.Arguments.{event_of as handed_over}

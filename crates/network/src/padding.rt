@@ -17,7 +17,7 @@ use queue::peek::{Found, Head};
 use queue::{header, peek};
 
 // A packet that is taken over, and what the test for an aggregate found.
-#[derive(Drop)]
+#[derive(Clone, Copy)]
 pub struct Replaced {
     pub head: Head,
     pub by: Delayed,
@@ -25,7 +25,7 @@ pub struct Replaced {
 }
 
 // What the step is to do.
-#[derive(Drop)]
+#[derive(Clone, Copy)]
 pub enum Padding {
     Own,
     Dropped,

@@ -22,7 +22,7 @@ use moment::{Length, Moment};
 use queue::header;
 
 // What the step is to do.
-#[derive(Drop)]
+#[derive(Clone, Copy)]
 pub struct Tunnel {
     pub stale: u64,
     pub by: Delayed,
@@ -31,7 +31,7 @@ pub struct Tunnel {
 }
 
 // What the header says for it. The aggregate test uses the client's sum on both sides; the reporting delay is the recipient's.
-#[derive(Drop)]
+#[derive(Clone, Copy)]
 pub struct Link {
     pub delay: Length,
     pub window: Length,

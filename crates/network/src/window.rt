@@ -14,14 +14,14 @@ use queue::header;
 use queue_event::words;
 
 // A packet limit, or none.
-#[derive(Drop)]
+#[derive(Clone, Copy)]
 pub enum Rate {
     Unlimited,
     Packets(u64),
 }
 
 // How many of the oldest stamps go, and the delay that the stamps left add, the new one with them.
-#[derive(Drop)]
+#[derive(Clone, Copy)]
 pub struct Filled {
     pub stale: u64,
     pub extra: Length,

@@ -6,7 +6,8 @@ use mathlib.Core.List.{List, [], ◌∷◌, tail, map}
 use native.Mathlib.Omega.{arith}
 use lib.Dec.{ltb}
 use lib.ListN.{length, take, drop}
-use Rattle.rules.specs.Basics.{Side, client, server, if◌then◌else◌}
+use Rattle.std.specs.Prelude.{if◌then◌else◌}
+use Rattle.rules.specs.Basics.{Side, client, server}
 use Rattle.rules.specs.State.{Held, State, side}
 use Rattle.rules.specs.NetworkStep.{stamps_kept, free_with_evicted, stamp}
 use Rattle.layout.specs.Layout.{state_of, held_stamp}

@@ -6,7 +6,8 @@ use mathlib.Core.List.{List}
 use mathlib.Core.Option.{Option, none, some}
 use native.Mathlib.Omega.{arith}
 use lib.ListN.{length}
-use Rattle.rules.specs.Basics.{TunnelSent, if◌then◌else◌}
+use Rattle.std.specs.Prelude.{if◌then◌else◌}
+use Rattle.rules.specs.Basics.{TunnelSent}
 use Rattle.rules.specs.State.{Event, State, side}
 use Rattle.rules.specs.Limits.{duration_limit}
 use Rattle.rules.specs.Aggregates.{add_aggregates, aggregates_of, some_sum}

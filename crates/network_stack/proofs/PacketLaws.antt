@@ -3,7 +3,8 @@ use Prim.Native.Nat.{ℕ, zero, suc, ◌≤◌}
 use mathlib.Core.Path.{◌≡◌, refl, ap, ◌∙◌}
 use mathlib.Core.Bool.{Bool, true, false}
 use native.Mathlib.Omega.{arith}
-use Rattle.rules.specs.Basics.{Side, TunnelRecv, PaddingRecv, NormalRecv, rank, if◌then◌else◌}
+use Rattle.std.specs.Prelude.{if◌then◌else◌}
+use Rattle.rules.specs.Basics.{Side, TunnelRecv, PaddingRecv, NormalRecv, rank}
 use Rattle.rules.specs.State.{Event}
 use Rattle.rules.specs.NetworkStep.{packet}
 use Rattle.event.specs.HandedIn.{side_of}

@@ -8,7 +8,8 @@ use mathlib.Core.Option.{Option}
 use native.Mathlib.Omega.{arith}
 use lib.ListN.{get_or, set, take, length-set}
 use lib.Seq.{get_or-set_other, get_or-take}
-use Rattle.rules.specs.Basics.{if◌then◌else◌, kind_of}
+use Rattle.std.specs.Prelude.{if◌then◌else◌}
+use Rattle.rules.specs.Basics.{kind_of}
 use Rattle.rules.specs.State.{State, with_ended}
 use Rattle.rules.specs.Limits.{duration_limit}
 use Rattle.rules.specs.Choice.{Answer as RulesAnswer, refused, step_made}

@@ -8,7 +8,8 @@ use native.Mathlib.Omega.{arith}
 use lib.Dec.{leb, lit<}
 use lib.ListN.{drop, get_or, length, take}
 use lib.Seq.{get_or-take}
-use Rattle.rules.specs.Basics.{Side, client, server, if◌then◌else◌}
+use Rattle.std.specs.Prelude.{if◌then◌else◌}
+use Rattle.rules.specs.Basics.{Side, client, server}
 use Rattle.rules.specs.State.{Held, State, free_place, in_record, side}
 use Rattle.rules.specs.Limits.{duration_limit, moment_limit}
 use Rattle.rules.specs.NetworkStep.{count_falls, free_with_evicted, stamp, stamp_tells, stamps_kept, too_old_from}

@@ -1,7 +1,7 @@
 -- The packets that a step queues, and what a plan asks before it is carried out. Assumes nothing.
-use Rattle.std.specs.Prelude.{ℕ, ◌+◌, ◌≤◌, ◌≡◌, Bool, false, List, ◌⊎◌, length}
+use Rattle.std.specs.Prelude.{ℕ, ◌+◌, ◌≤◌, ◌≡◌, Bool, false, List, ◌⊎◌, length, if◌then◌else◌}
 use Rattle.std.proofs.Math.Option.{some}
-use Rattle.rules.specs.Basics.{NormalRecv, PaddingRecv, if◌then◌else◌}
+use Rattle.rules.specs.Basics.{NormalRecv, PaddingRecv}
 use Rattle.rules.specs.State.{Event, State, in_record}
 use Rattle.rules.specs.Limits.{duration_limit, moment_limit}
 use Rattle.rules.specs.ChoiceHeads.{Head as RulesHead}

@@ -9,7 +9,7 @@ use lib.ListN.{length, get_or, take, drop, length-drop}
 use lib.Seq.{get_or-take}
 use borrow.Author.Tests.{ltb-true, leb-true}
 use borrow.Rule.Slice.PartMut.{put_mid}
-use Rattle.rules.specs.Basics.{if◌then◌else◌}
+use Rattle.std.specs.Prelude.{if◌then◌else◌}
 use Rattle.queue_event.specs.Chain.{Rec}
 use Rattle.layout.specs.Records.{head_of, count_of}
 use Rattle.layout.specs.Accepted.{room, Accepted}

@@ -1,6 +1,5 @@
 -- The header of a packed state, by the counts of its chains. Assumes nothing.
-use Rattle.std.specs.Prelude.{ℕ, zero, suc, ◌+◌, ◌-◌, ◌≤◌, ◌<◌, ◌≡◌, List, eqb, length, get_or}
-use Rattle.rules.specs.Basics.{if◌then◌else◌}
+use Rattle.std.specs.Prelude.{ℕ, zero, suc, ◌+◌, ◌-◌, ◌≤◌, ◌<◌, ◌≡◌, List, eqb, length, get_or, if◌then◌else◌}
 use Rattle.layout.specs.Records.{chain_count, head_of, count_of}
 use Rattle.layout.specs.Packed.{header_word}
 

@@ -1,4 +1,6 @@
 // The packed form of a state, written into a second block.
+#![tactic(auto)]
+
 ghost use Rattle.std.specs.Prelude.{◌≡◌, length};
 ghost use Rattle.layout.specs.Accepted.{Accepted};
 ghost use Rattle.layout.specs.Packed.{packed_words};

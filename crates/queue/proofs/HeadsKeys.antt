@@ -9,7 +9,8 @@ use lib.Dec.{eqb}
 use lib.ListN.{get_or}
 use borrow.Author.Tests.{ne_eqb}
 use Rattle.moment.specs.declared.Moment.{Moment}
-use Rattle.rules.specs.Basics.{if◌then◌else◌, before, rank}
+use Rattle.std.specs.Prelude.{if◌then◌else◌}
+use Rattle.rules.specs.Basics.{before, rank}
 use Rattle.rules.specs.State.{SideState, queue}
 use Rattle.rules.specs.Limits.{moment_limit}
 use Rattle.rules.specs.ChoiceHeads.{head_as, first_by, by_moment, by_delay, base_head, side_head, queue_head, Head as RulesHead}

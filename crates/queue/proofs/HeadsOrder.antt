@@ -8,7 +8,8 @@ use mathlib.Core.Option.{Option}
 use native.Mathlib.Omega.{arith}
 use lib.Dec.{eqb, ltb}
 use borrow.Author.Tests.{lt-ltb, le-ltb, eq-eqb, ne_eqb}
-use Rattle.rules.specs.Basics.{if◌then◌else◌, before, rank}
+use Rattle.std.specs.Prelude.{if◌then◌else◌}
+use Rattle.rules.specs.Basics.{before, rank}
 use Rattle.rules.specs.ChoiceHeads.{first_by, by_moment, by_raw_moment, Head as RulesHead}
 use Rattle.event.specs.Values.{kind_at}
 use Rattle.layout.proofs.Order.{rank_kind}

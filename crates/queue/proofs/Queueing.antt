@@ -6,7 +6,8 @@ use mathlib.Core.List.{List, [], ◌∷◌, ◌++◌, map, tail}
 use native.Mathlib.Omega.{arith}
 use lib.Dec.{ltb, eqb}
 use lib.ListN.{take, drop}
-use Rattle.rules.specs.Basics.{if◌then◌else◌, Side, client, server}
+use Rattle.std.specs.Prelude.{if◌then◌else◌}
+use Rattle.rules.specs.Basics.{Side, client, server}
 use Rattle.rules.specs.State.{in_record, Chain, State, side, with_side, with_queue, with_queues, with_stamps, with_aggregates, with_free, free_place, queue}
 use Rattle.rules.specs.Queueing.{chain_of, insert, push_event}
 use Rattle.rules.specs.Aggregates.{insert_aggregate, add_aggregate}

@@ -6,7 +6,8 @@ use mathlib.Core.List.{List, map}
 use native.Mathlib.Omega.{arith}
 use lib.ListN.{length, take, drop}
 use Rattle.rules.specs.Arguments.{event_of}
-use Rattle.rules.specs.Basics.{if◌then◌else◌, has_machine, Side, client, server}
+use Rattle.std.specs.Prelude.{if◌then◌else◌}
+use Rattle.rules.specs.Basics.{has_machine, Side, client, server}
 use Rattle.rules.specs.State.{Chain, State, base, blocking, bypassable, internal, queue, side}
 use Rattle.event.specs.HandedIn.{event_in}
 use Rattle.event.specs.declared.SimEvent.{SimEvent}

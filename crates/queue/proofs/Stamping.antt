@@ -6,7 +6,8 @@ use mathlib.Core.List.{List, [], ◌∷◌, ◌++◌, tail}
 use mathlib.Core.Logic.{◌⊎◌, inl, inr}
 use native.Mathlib.Omega.{arith}
 use lib.Dec.{ltb}
-use Rattle.rules.specs.Basics.{if◌then◌else◌, Side, client, server}
+use Rattle.std.specs.Prelude.{if◌then◌else◌}
+use Rattle.rules.specs.Basics.{Side, client, server}
 use Rattle.rules.specs.State.{Event, Held, SideState, State, in_record, free_place, side, with_side, with_stamps, with_free}
 use Rattle.rules.specs.ChoiceHeads.{Head}
 use Rattle.rules.specs.ChoiceRound.{lift_event, pop_side, take_event}

@@ -9,7 +9,8 @@ use lib.Dec.{ltb}
 use lib.ListN.{length, get_or, take, drop, length-drop}
 use lib.Seq.{get_or-take}
 use borrow.Author.Tests.{ltb-true}
-use Rattle.rules.specs.Basics.{if◌then◌else◌, Side, client, server}
+use Rattle.std.specs.Prelude.{if◌then◌else◌}
+use Rattle.rules.specs.Basics.{Side, client, server}
 use Rattle.rules.specs.State.{Chain, State, side, with_side, with_stamps, with_aggregates, with_free, free_place}
 use Rattle.queue_event.specs.Chain.{Rec, Node}
 use Rattle.layout.specs.Layout.{bank, held_event, held_aggregate, held_stamp, place_of, build, state_from, state_of}

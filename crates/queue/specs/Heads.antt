@@ -1,7 +1,7 @@
 -- The code's heads as the rules' own, and what is known of a head that was found. Assumes nothing.
-use Rattle.std.specs.Prelude.{ℕ, ◌+◌, ◌*◌, ◌<◌, ◌≤◌, ◌≡◌, Bool, List, ◌⊎◌, eqb}
+use Rattle.std.specs.Prelude.{ℕ, ◌+◌, ◌*◌, ◌<◌, ◌≤◌, ◌≡◌, Bool, List, ◌⊎◌, eqb, if◌then◌else◌}
 use Rattle.std.proofs.Math.Option.{Option, none, some}
-use Rattle.rules.specs.Basics.{if◌then◌else◌, rank}
+use Rattle.rules.specs.Basics.{rank}
 use Rattle.rules.specs.State.{Chain, base, blocking, bypassable, internal, SideState, side, queue}
 use Rattle.rules.specs.Limits.{moment_limit}
 use Rattle.rules.specs.ChoiceHeads.{head_as, first_by, by_moment, by_delay, Head as RulesHead}

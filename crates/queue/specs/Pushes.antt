@@ -1,6 +1,5 @@
 -- An event and an aggregate as the rules have them, and what queueing them asks. Assumes nothing.
-use Rattle.std.specs.Prelude.{ℕ, ◌≤◌, ◌<◌, ◌≡◌, Bool, false, List, eqb}
-use Rattle.rules.specs.Basics.{if◌then◌else◌}
+use Rattle.std.specs.Prelude.{ℕ, ◌≤◌, ◌<◌, ◌≡◌, Bool, false, List, eqb, if◌then◌else◌}
 use Rattle.event.specs.HandedIn.{has_machine_no}
 use Rattle.event.specs.declared.SimEvent.{SimEvent}
 use Rattle.layout.specs.Shape.{Shaped}

@@ -1,7 +1,7 @@
 -- The first aggregate and the first stamp of a side given back, and a stamp added, as changes of the state. Assumes nothing.
-use Rattle.std.specs.Prelude.{ℕ, zero, suc, ◌-◌, Bool, false, ltb}
+use Rattle.std.specs.Prelude.{ℕ, zero, suc, ◌-◌, Bool, false, ltb, if◌then◌else◌}
 use mathlib.Core.List.{List, [], ◌∷◌, ◌++◌, tail}
-use Rattle.rules.specs.Basics.{Side, if◌then◌else◌}
+use Rattle.rules.specs.Basics.{Side}
 use Rattle.rules.specs.State.{Held, State, free_place, in_record, side, with_aggregates, with_free, with_side, with_stamps}
 
 -- the record of the first

@@ -16,7 +16,7 @@ use moment::{Length, Moment};
 use queue_event::{read, tag, words};
 
 // The head of a chain: which of its side's chains, its record, its event, and its moment as the choice sees it.
-#[derive(Drop)]
+#[derive(Clone, Copy)]
 pub struct Head {
     pub chain: u64,
     pub place: u64,
@@ -24,7 +24,7 @@ pub struct Head {
     pub moment: Moment,
 }
 
-#[derive(Drop)]
+#[derive(Clone, Copy)]
 pub enum Found {
     Nothing,
     At(Head),
@@ -32,7 +32,7 @@ pub enum Found {
 
 // What the choice compares of a chain's head: its moment as the choice sees it, and its rank. Chain 0 is no head.
 // Keys are three words, so the choice is between these and only the head that it takes is read whole.
-#[derive(Drop)]
+#[derive(Clone, Copy)]
 pub struct Key {
     pub chain: u64,
     pub moment: Moment,

@@ -1,4 +1,6 @@
 // Chains of four-word records in a lent slice: reading a record, taking the head, inserting in order, appending, looking through.
+#![tactic(auto)]
+
 pub mod append;
 pub mod insert;
 pub mod pop;

@@ -36,19 +36,19 @@ module _ (h : List ℕ) (ok : SlotsOk h) where
     past_slot : machines_of h ((16 * n + i) / 16) ≤ (16 * n + i) % 16
     past_slot = rw (side, machine) past
 
-    no_timer_lem : bank 64 32 h (16 * n + i) ≡ 0
-    no_timer_lem = bank_at 64 32 h (16 * n + i) (omega arith) ∙ (ok (16 * n + i) (omega arith)).no_timer_lem past_slot
+    no_timers : bank 64 32 h (16 * n + i) ≡ 0
+    no_timers = bank_at 64 32 h (16 * n + i) (omega arith) ∙ (ok (16 * n + i) (omega arith)).no_timers past_slot
 
-    no_action_lem : bank 96 96 h (3 * (16 * n + i)) ≡ 0
-    no_action_lem = bank_at 96 96 h (3 * (16 * n + i)) (omega arith) ∙ (ok (16 * n + i) (omega arith)).no_action_lem past_slot
+    no_actions : bank 96 96 h (3 * (16 * n + i)) ≡ 0
+    no_actions = bank_at 96 96 h (3 * (16 * n + i)) (omega arith) ∙ (ok (16 * n + i) (omega arith)).no_actions past_slot
 
   module _ (b : Bool) (i : ℕ) (past : machines_of h (side_no (side_of b)) ≤ i) (last : i < 16) where
     pub timer_beyond : less_one (bank 64 32 h (16 * side_no (side_of b) + i)) ≡ none
-    timer_beyond = ap less_one (no_timer_lem (side_no (side_of b)) i (side_few b) past last)
+    timer_beyond = ap less_one (no_timers (side_no (side_of b)) i (side_few b) past last)
 
     pub action_beyond : (m d : ℕ) → action_from (bank 96 96 h (3 * (16 * side_no (side_of b) + i))) m d ≡ none
     unfolding action_from
-    action_beyond m d = ap (λ w. action_from w m d) (no_action_lem (side_no (side_of b)) i (side_few b) past last)
+    action_beyond m d = ap (λ w. action_from w m d) (no_actions (side_no (side_of b)) i (side_few b) past last)
 
 -- ---- slots that hold nothing from m on
 

@@ -9,7 +9,8 @@ use native.Mathlib.Omega.{arith}
 use lib.Dec.{leb}
 use lib.ListN.{get_or}
 use Rattle.moment.specs.declared.Length.{Length}
-use Rattle.rules.specs.Basics.{if◌then◌else◌, after, absent, ◌≤ᵈ◌, earlier, Delay as RulesDelay}
+use Rattle.std.specs.Prelude.{if◌then◌else◌}
+use Rattle.rules.specs.Basics.{after, absent, ◌≤ᵈ◌, earlier, Delay as RulesDelay}
 use Rattle.rules.specs.State.{Action}
 use Rattle.rules.specs.Limits.{moment_limit}
 use Rattle.rules.specs.ChoiceDelays.{slot_delay, least_delay, action_delay, timer_delay}

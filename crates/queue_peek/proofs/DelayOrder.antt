@@ -3,7 +3,8 @@ use mathlib.Core.Path.{◌≡◌, refl, sym, ap, ap₂, ◌∙◌}
 use mathlib.Core.Bool.{Bool, true, false}
 use lib.Dec.{leb}
 use Rattle.moment.specs.declared.Length.{Length}
-use Rattle.rules.specs.Basics.{if◌then◌else◌, after, absent, ◌≤ᵈ◌, earlier, Delay as RulesDelay}
+use Rattle.std.specs.Prelude.{if◌then◌else◌}
+use Rattle.rules.specs.Basics.{after, absent, ◌≤ᵈ◌, earlier, Delay as RulesDelay}
 use Rattle.queue_peek.specs.declared.order.Delay.{Delay}
 use Rattle.queue_peek.specs.declared.order.Delay.TheVariants.{Absent, In}
 use Rattle.queue_peek.specs.Decoded.{delay_of}

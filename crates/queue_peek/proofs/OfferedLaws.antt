@@ -7,7 +7,8 @@ use mathlib.Core.Option.{Option, none, get_or, map}
 use borrow.Author.Tests.{not-true, not-false}
 use Rattle.moment.specs.declared.Moment.{Moment}
 use Rattle.moment.specs.declared.Length.{Length}
-use Rattle.rules.specs.Basics.{if◌then◌else◌, after, ◌≤ᵈ◌}
+use Rattle.std.specs.Prelude.{if◌then◌else◌}
+use Rattle.rules.specs.Basics.{after, ◌≤ᵈ◌}
 use Rattle.rules.specs.Limits.{moment_limit}
 use Rattle.rules.specs.ChoiceHeads.{head_delay, held_back, waiting_first, not_before, waiting_head, passing_head, earliest_of_side, earliest_blocked, first_by, peek_from, peek_queue, queue_head, Head as RulesHead}
 use Rattle.layout.specs.Accepted.{Good}

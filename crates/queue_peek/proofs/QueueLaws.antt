@@ -9,7 +9,8 @@ use lib.Dec.{eqb}
 use borrow.Author.Tests.{lt-ltb, le-ltb, eq-eqb, ne_eqb, not-true, not-false}
 use Rattle.moment.specs.declared.Moment.{Moment}
 use Rattle.moment.specs.declared.Length.{Length}
-use Rattle.rules.specs.Basics.{if◌then◌else◌, after, is_some, is_tunnel_sent}
+use Rattle.std.specs.Prelude.{if◌then◌else◌}
+use Rattle.rules.specs.Basics.{after, is_some, is_tunnel_sent}
 use Rattle.rules.specs.State.{blocking, bypassable, internal}
 use Rattle.rules.specs.Limits.{moment_limit}
 use Rattle.rules.specs.ChoiceHeads.{head_delay, held_back, is_base, waiting_first, not_before}

@@ -10,7 +10,8 @@ use lib.Dec.{ltb}
 use lib.ListN.{get_or, drop}
 use borrow.Author.Tests.{le-leb, lt-leb, ltb-true, ltb-false}
 use Rattle.moment.specs.declared.Length.{Length}
-use Rattle.rules.specs.Basics.{if◌then◌else◌, after, absent, earlier}
+use Rattle.std.specs.Prelude.{if◌then◌else◌}
+use Rattle.rules.specs.Basics.{after, absent, earlier}
 use Rattle.rules.specs.State.{Action}
 use Rattle.rules.specs.ChoiceDelays.{slot_delay, least_delay, action_moments}
 use Rattle.event.specs.HandedIn.{side_of}

@@ -11,13 +11,13 @@ use moment::Moment;
 use queue::header;
 
 // The next block to end: its side, and when.
-#[derive(Drop)]
+#[derive(Clone, Copy)]
 pub struct BlockEnd {
     pub client: bool,
     pub end: Moment,
 }
 
-#[derive(Drop)]
+#[derive(Clone, Copy)]
 pub enum Blocked {
     Nothing,
     Until(BlockEnd),

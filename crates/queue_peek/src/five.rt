@@ -18,7 +18,7 @@ use queue::peek::Found;
 use queue_event::words;
 
 // Of an action, of a timer, of a block's end, of the first aggregate, and of the queues' head, which stands beside its delay.
-#[derive(Drop)]
+#[derive(Clone, Copy)]
 pub struct Delays {
     pub s: Delay,
     pub i: Delay,

@@ -1,4 +1,6 @@
 // The five delays of a round, as queue_peek.rs reckons them.
+#![tactic(auto)]
+
 ghost use Rattle.std.specs.Prelude.{◌≡◌, ◌≤◌, length};
 ghost use Rattle.rules.specs.Limits.{moment_limit};
 ghost use Rattle.rules.specs.ChoiceDelays.{delays as delays_at};

@@ -7,7 +7,7 @@ ghost use Rattle.queue_peek.specs.Decoded.{delay_of};
 use moment::Length;
 
 // An absent one is later than all.
-#[derive(Drop)]
+#[derive(Clone, Copy)]
 pub enum Delay {
     Absent,
     In(Length),

@@ -7,7 +7,8 @@ use mathlib.Core.Option.{get_or, some}
 use native.Mathlib.Omega.{arith}
 use lib.Dec.{ltb}
 use lib.ListN.{length}
-use Rattle.rules.specs.Basics.{Side, client, server, if◌then◌else◌}
+use Rattle.std.specs.Prelude.{if◌then◌else◌}
+use Rattle.rules.specs.Basics.{Side, client, server}
 use Rattle.rules.specs.State.{Action, BlockOutgoing, SideState, State, side, with_side, with_block}
 use Rattle.rules.specs.Queueing.{push_event}
 use Rattle.rules.specs.ChoiceRound.{Slot, timer_event, timer_cleared, no_timer, sets_block, acted_side, acted_event}

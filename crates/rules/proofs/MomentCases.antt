@@ -8,7 +8,8 @@ use mathlib.Core.Option.{some}
 use native.Mathlib.Omega.{arith}
 use lib.Dec.{ltb}
 use borrow.Author.Tests.{ltb-true, ltb-false, lt-ltb, le-ltb}
-use Rattle.rules.specs.Basics.{Side, client, if◌then◌else◌, server}
+use Rattle.std.specs.Prelude.{if◌then◌else◌}
+use Rattle.rules.specs.Basics.{Side, client, server}
 use Rattle.rules.specs.State.{Aggregate}
 use Rattle.rules.specs.Aggregates.{aggregates_of}
 use Rattle.rules.specs.AggregateMoments.{InCase, MomentCase, case_moment, client_client_above, client_client_rest, client_server_above, client_server_rest, server_client_above, server_client_rest, server_server_above, server_server_rest}

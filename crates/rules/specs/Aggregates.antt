@@ -1,9 +1,9 @@
 -- The three aggregate tests of `delay.rs`, `push_aggregate_delay` of `network.rs`, and the chain of pending aggregates of document 01.
-use Rattle.std.specs.Prelude.{◌*◌, ◌+◌, ◌-◌, max, ℕ, Bool, ◌&&◌, ◌||◌, false, not, eqb, leb, ltb, length}
+use Rattle.std.specs.Prelude.{◌*◌, ◌+◌, ◌-◌, max, ℕ, Bool, ◌&&◌, ◌||◌, false, not, eqb, leb, ltb, length, if◌then◌else◌}
 use mathlib.Core.List.{List, [], ◌++◌, ◌∷◌, tail}
 use Rattle.std.proofs.Math.Option.{Option, none, some}
 use Rattle.rules.specs.State.{Aggregate, Event, Held, SideState, State, free_place, in_record, with_aggregates, with_free}
-use Rattle.rules.specs.Basics.{Side, client, if◌then◌else◌, server}
+use Rattle.rules.specs.Basics.{Side, client, server}
 
 -- the margins of `delay.rs`: 1 ms about the tail of a burst, 1 ms to the base trace, 100 ms to an adjacent packet
 abbrev pub buffer_window : ℕ

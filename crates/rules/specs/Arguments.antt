@@ -1,8 +1,8 @@
 -- What a call hands in, as document 01's "The state" keeps it. Kinds may be any number here: number 6 is given for them.
-use Rattle.std.specs.Prelude.{ℕ, Bool, [], ◌∷◌, get_or}
+use Rattle.std.specs.Prelude.{ℕ, Bool, [], ◌∷◌, get_or, if◌then◌else◌}
 use Rattle.std.proofs.Math.Option.{Option, none, some}
 use Rattle.rules.specs.State.{Action, ActionKind, BlockOutgoing, Event, SendPadding}
-use Rattle.rules.specs.Basics.{Kind, Side, has_machine, if◌then◌else◌}
+use Rattle.rules.specs.Basics.{Kind, Side, has_machine}
 use Rattle.rules.specs.ChoiceRound.{Slot}
 
 -- an event as it is handed in

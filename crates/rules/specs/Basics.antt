@@ -1,13 +1,7 @@
 -- What the rules are written with: a choice between two values, a delay that may be absent, sides and kinds.
-use Rattle.std.specs.Prelude.{◌-◌, ℕ, Bool, ◌&&◌, ◌||◌, false, true, [], ◌∷◌, eqb, leb, ltb, get_or}
+use Rattle.std.specs.Prelude.{◌-◌, ℕ, Bool, ◌&&◌, ◌||◌, false, true, [], ◌∷◌, eqb, leb, ltb, get_or, if◌then◌else◌}
 use Rattle.std.proofs.Math.Option
 use Rattle.std.proofs.Math.Option.{Option, none, some, map}
-
--- the first value where the test holds, else the second
-infix 5 if◌then◌else◌
-abbrev pub if◌then◌else◌ : {A : Type 0} → Bool → A → A → A
-if true then a else b = a
-if false then a else b = b
 
 -- whether there is a value
 abbrev pub is_some : {A : Type 0} → Option A → Bool

@@ -1,6 +1,6 @@
 -- Document 01, "A list of calls": what demand 3 speaks of. The calls are of any number, in any order, with any arguments, each on the state that
 -- the call before it left.
-use Rattle.std.specs.Prelude.{◌+◌, suc, zero, ℕ, Bool, ◌&&◌, false, not, true, List, [], ◌∷◌, eqb, leb, ltb, length}
+use Rattle.std.specs.Prelude.{◌+◌, suc, zero, ℕ, Bool, ◌&&◌, false, not, true, List, [], ◌∷◌, eqb, leb, ltb, length, if◌then◌else◌}
 use Rattle.std.proofs.Math.Option.{Option, none, some}
 use Rattle.rules.specs.Choice.{Answer, done, event, nothing_left, refused, step_made}
 use Rattle.rules.specs.Arguments.{Call, clear_action, clear_timer, pick_next, push, set_action, set_timer, sim_network_stack}
@@ -8,7 +8,7 @@ use Rattle.rules.specs.ChoiceRound.{RoundOutcome, next, nothing, passed, round, 
 use Rattle.rules.specs.State.{SideState, State, queued, reserved, rounds_left, used}
 use Rattle.rules.specs.ChoiceDelays.{action_moments}
 use Rattle.rules.specs.Calls.{call}
-use Rattle.rules.specs.Basics.{if◌then◌else◌, is_some}
+use Rattle.rules.specs.Basics.{is_some}
 use Rattle.rules.specs.Refusals.{refusal}
 
 -- ---- the list

@@ -1,5 +1,5 @@
 -- Every call but opening on a state: its answer, the rounds in it, and the state left, refusals 3 to 10 included.
-use Rattle.std.specs.Prelude.{ℕ, true}
+use Rattle.std.specs.Prelude.{ℕ, true, if◌then◌else◌}
 use Rattle.std.proofs.Math.Option.{Option, none, some}
 use Rattle.rules.specs.Choice.{Answer, Called, choose, done, refused, step_made}
 use Rattle.rules.specs.Arguments.{Call, action_kind_of, clear_action, clear_timer, pick_next, push, set_action, set_timer, sim_network_stack}
@@ -7,7 +7,7 @@ use Rattle.rules.specs.State.{State, with_ended}
 use Rattle.rules.specs.NetworkStep.{Stepped}
 use Rattle.rules.specs.Effects.{after_push, after_set_action, after_step, timer_set}
 use Rattle.rules.specs.ChoiceRound.{action_cleared, timer_cleared, fits}
-use Rattle.rules.specs.Basics.{if◌then◌else◌, kind_of}
+use Rattle.rules.specs.Basics.{kind_of}
 use Rattle.rules.specs.Refusals.{refusal}
 
 abbrev pub leaves : State → Answer → Called

@@ -29,7 +29,7 @@ pub record Starred : Type 0 where
   -- Timer at 99 only: nothing left, timer kept.
   pub past_timer : call (with_timer fresh client 0 99) (pick_next 100) ≡ nothing_in 1 (with_timer fresh client 0 99)
   -- Client block action at 100, duration 0, no replace: `BlockingBegin` at 100, no block, 2 rounds.
-  pub no_block_lem :
+  pub no_blocks :
       call (with_action fresh client 0 (record { kind = BlockOutgoing; moment = 100; duration = 0; bypass = false; replace = false })) (pick_next 100)
       ≡ an_event_in (plain BlockingBegin 100 client 0) 2 fresh
   -- Client blocked to 150, not bypassable, network delay 20, one client `TunnelSent` at 100: `BlockingEnd` at 150; aggregates of 50 at 180
@@ -69,7 +69,7 @@ starred = record {
   both_blocks = refl;
   timers = refl;
   past_timer = refl;
-  no_block_lem = refl;
+  no_blocks = refl;
   held_packet = refl;
   passing_packet = refl;
   counts = refl;

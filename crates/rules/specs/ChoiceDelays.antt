@@ -1,10 +1,10 @@
 -- Document 01, "One choice": "Each round reckons five delays from now; an absent one is later than all."
-use Rattle.std.specs.Prelude.{◌-◌, ℕ, leb, ltb}
+use Rattle.std.specs.Prelude.{◌-◌, ℕ, leb, ltb, if◌then◌else◌}
 use mathlib.Core.List.{List, [], ◌∷◌, head?, map}
 use Rattle.std.proofs.Math.Option
 use Rattle.std.proofs.Math.Option.{Option, none, some}
 use Rattle.rules.specs.State.{Action, Aggregate, Held, SideState, State}
-use Rattle.rules.specs.Basics.{Delay, Side, absent, after, client, delay_to, earlier, if◌then◌else◌, server}
+use Rattle.rules.specs.Basics.{Delay, Side, absent, after, client, delay_to, earlier, server}
 use Rattle.rules.specs.ChoiceHeads.{Head, head_delay, peek_queue}
 
 -- the five

@@ -1,8 +1,8 @@
 -- Document 01, "One choice", q: the heads of the queues, which of them comes first, and what a block makes of it.
-use Rattle.std.specs.Prelude.{◌+◌, ◌-◌, max, ℕ, Bool, ◌&&◌, ◌||◌, false, not, true, List, [], ◌∷◌, eqb, ltb}
+use Rattle.std.specs.Prelude.{◌+◌, ◌-◌, max, ℕ, Bool, ◌&&◌, ◌||◌, false, not, true, List, [], ◌∷◌, eqb, ltb, if◌then◌else◌}
 use Rattle.std.proofs.Math.Option.{Option, get_or, map, none, some}
 use Rattle.rules.specs.State.{Chain, Event, Held, SideState, State, base, blocking, bypassable, internal, side}
-use Rattle.rules.specs.Basics.{Delay, ◌≤ᵈ◌, after, before, delay_to, if◌then◌else◌, is_some, is_tunnel_sent, rank}
+use Rattle.rules.specs.Basics.{Delay, ◌≤ᵈ◌, after, before, delay_to, is_some, is_tunnel_sent, rank}
 
 -- the head of a chain, with its moment as the choice sees it: a base event's has its side's sum added
 pub record Head : Type 0 where

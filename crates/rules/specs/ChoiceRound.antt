@@ -1,11 +1,11 @@
 -- Document 01, "One choice": one round of `pick_next`. What it takes up, what it makes of it, and the sums that it forms.
-use Rattle.std.specs.Prelude.{◌+◌, ◌-◌, max, suc, ℕ, Bool, ◌&&◌, ◌||◌, false, true, eqb, leb, ltb, get_or, set}
+use Rattle.std.specs.Prelude.{◌+◌, ◌-◌, max, suc, ℕ, Bool, ◌&&◌, ◌||◌, false, true, eqb, leb, ltb, get_or, set, if◌then◌else◌}
 use mathlib.Core.List.{List, [], ◌++◌, ◌∷◌, head?, map, tail}
 use Rattle.std.proofs.Math.Option
 use Rattle.std.proofs.Math.Option.{Option, none, some}
 use Rattle.rules.specs.State.{Action, ActionKind, Aggregate, BlockOutgoing, Chain, Event, Held, SendPadding, SideState, State, queue, side, total, with_actions, with_aggregates, with_block, with_ended, with_free, with_queue, with_queues, with_rounds, with_side, with_sum, with_timers}
 use Rattle.rules.specs.ChoiceDelays.{Block, Delays, action_moments, delays, next_block, offered}
-use Rattle.rules.specs.Basics.{BlockingBegin, BlockingEnd, Delay, PaddingSent, Side, TimerEnd, ◌≤ᵈ◌, absent, after, client, if◌then◌else◌, server}
+use Rattle.rules.specs.Basics.{BlockingBegin, BlockingEnd, Delay, PaddingSent, Side, TimerEnd, ◌≤ᵈ◌, absent, after, client, server}
 use Rattle.rules.specs.ChoiceHeads.{Head, is_base, waiting_head}
 use Rattle.rules.specs.Aggregates.{add_aggregates, aggregates_of, base_moment, on_expire, some_sum}
 use Rattle.rules.specs.Limits.{moment_limit}

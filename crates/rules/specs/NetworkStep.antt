@@ -1,9 +1,9 @@
 -- Document 01, "One network step": `sim_network_stack`, kind by kind, "on an event and a time that the call hands in".
-use Rattle.std.specs.Prelude.{◌*◌, ◌+◌, ◌-◌, ◌/◌, max, ℕ, Bool, ◌&&◌, false, true, length, leb, ltb}
+use Rattle.std.specs.Prelude.{◌*◌, ◌+◌, ◌-◌, ◌/◌, max, ℕ, Bool, ◌&&◌, false, true, length, leb, ltb, if◌then◌else◌}
 use mathlib.Core.List.{List, [], ◌++◌, ◌∷◌, map, tail}
 use Rattle.std.proofs.Math.Option.{Option, none, some}
 use Rattle.rules.specs.State.{Aggregate, Event, Held, SideState, State, free_place, in_record, side, with_free, with_side, with_stamps}
-use Rattle.rules.specs.Basics.{BlockingBegin, BlockingEnd, Kind, NormalRecv, NormalSent, PaddingRecv, PaddingSent, Side, TimerBegin, TimerEnd, TunnelRecv, TunnelSent, if◌then◌else◌, other}
+use Rattle.rules.specs.Basics.{BlockingBegin, BlockingEnd, Kind, NormalRecv, NormalSent, PaddingRecv, PaddingSent, Side, TimerBegin, TimerEnd, TunnelRecv, TunnelSent, other}
 use Rattle.rules.specs.Limits.{moment_limit}
 use Rattle.rules.specs.ChoiceHeads.{Head, waiting_head}
 use Rattle.rules.specs.Aggregates.{add_aggregates, aggregates_of, on_delayed, on_replace, test_sums}

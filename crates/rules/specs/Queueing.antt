@@ -1,8 +1,8 @@
 -- Document 01, "The state": the chain that an event goes to, its place there, and the record that it takes.
-use Rattle.std.specs.Prelude.{Bool}
+use Rattle.std.specs.Prelude.{Bool, if◌then◌else◌}
 use mathlib.Core.List.{List, [], ◌∷◌, tail}
 use Rattle.rules.specs.State.{Chain, Event, Held, SideState, State, base, blocking, bypassable, free_place, in_record, internal, queue, side, with_free, with_queue, with_queues, with_side}
-use Rattle.rules.specs.Basics.{before, if◌then◌else◌, rank, BlockingBegin, BlockingEnd, Kind, NormalRecv, NormalSent, PaddingRecv, PaddingSent, TimerBegin, TimerEnd, TunnelRecv, TunnelSent}
+use Rattle.rules.specs.Basics.{before, rank, BlockingBegin, BlockingEnd, Kind, NormalRecv, NormalSent, PaddingRecv, PaddingSent, TimerBegin, TimerEnd, TunnelRecv, TunnelSent}
 
 -- "`TunnelSent` goes to bypassable if its bypass flag is set, else to blocking; `NormalSent` to base; all else to internal."
 abbrev pub chain_for : Kind → Bool → Chain

@@ -1,13 +1,13 @@
 -- Document 01, "Numbers of a refusal": the rows 3 to 9 for each call, in the table's order. Rows 1 and 2 are of the lent words, 4 is of opening,
 -- 10 comes after these.
-use Rattle.std.specs.Prelude.{◌+◌, ℕ, Bool, ◌&&◌, ◌||◌, false, not, List, [], ◌∷◌, eqb, leb, ltb}
+use Rattle.std.specs.Prelude.{◌+◌, ℕ, Bool, ◌&&◌, ◌||◌, false, not, List, [], ◌∷◌, eqb, leb, ltb, if◌then◌else◌}
 use Rattle.std.proofs.Math.Option.{Option, none, some}
 use Rattle.rules.specs.Arguments.{ActionIn, Call, EventIn, action_kind_of, clear_action, clear_timer, kept_duration, pick_next, push, set_action, set_timer, sim_network_stack}
 use Rattle.rules.specs.State.{ActionKind, State, reserved, side, used}
 use Rattle.rules.specs.ChoiceRound.{Slot}
 use Rattle.rules.specs.Effects.{after_push, after_set_action, after_step, timer_set}
 use Rattle.rules.specs.Limits.{delay_limit, duration_limit, moment_limit}
-use Rattle.rules.specs.Basics.{if◌then◌else◌, is_some, kind_of, has_machine_no}
+use Rattle.rules.specs.Basics.{is_some, kind_of, has_machine_no}
 
 -- the number of the first row that holds
 abbrev pub first_of : List (ℕ × Bool) → Option ℕ

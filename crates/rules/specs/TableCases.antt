@@ -154,7 +154,7 @@ pub record TableInputs : Type 0 where
       (map (λ (k : ℕ). told tiny (sim_network_stack 5 (event_for k 5 0 0))) (0 ∷ 1 ∷ []) ≡ refused 9 0 ∷ no_step ∷ [])
       × (map (λ (k : ℕ). told tiny_full (sim_network_stack 5 (event_for k 5 0 0))) (0 ∷ 1 ∷ 4 ∷ []) ≡ refused 9 0 ∷ refused 9 0 ∷ no_step ∷ [])
   -- "Checked in this order": 5 before 7, 6 before 7, 7 before 8, 7 before 9, 8 before 9, and 3 before all
-  pub in_order_lem :
+  pub met_in_order :
       map (told fresh) (push (event_for 2 4_611_686_018_427_387_904 0 2) ∷ push (event_for 10 4_611_686_018_427_387_904 0 0) ∷ sim_network_stack 5 (event_for 0 5 2_000_000_000_001 0) ∷ [])
       ≡ refused 5 0 ∷ refused 6 0 ∷ refused 7 0 ∷ []
   pub in_order_full :
@@ -220,7 +220,7 @@ table_inputs = record {
   nine = (refl, refl);
   nine_slots = (refl, refl, refl);
   nine_step = (refl, refl);
-  in_order_lem = refl;
+  met_in_order = refl;
   in_order_full = (refl, refl);
   ten = refl;
   ten_total = (refl, refl);

@@ -1,4 +1,6 @@
 // The rules of document 01 stand in specs/. This crate has one function, since a crate needs one.
+#![tactic(auto)]
+
 ghost use Rattle.std.specs.Prelude.{◌≡◌};
 ghost use Rattle.rules.specs.Limits.{moment_limit};
 

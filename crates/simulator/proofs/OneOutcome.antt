@@ -75,7 +75,7 @@ refused_so w c a left h o = go (size_decided (length w))
   where
     go : (d : Dec (SizeOk (length w))) → (a ≡ refused (number_of_bad d) 0) × (left ≡ w)
     go (yes s) = o.bad s h
-    go (no d) = o.wrong_length_lem d
+    go (no d) = o.bad_length d
 
 pub refused_left : (w : List ℕ) (c : Call) (a : Answer) (left : List ℕ) → (Accepted w → ⊥) → Outcome w c a left → left ≡ w
 refused_left w c a left h o = (refused_so w c a left h o).1
@@ -130,7 +130,7 @@ module _ (w v : List ℕ) (a b : Answer) (left right : List ℕ) (x : Packs w v 
       join c z m n = (m.0 ∙ sym n.0, m.1 ∙ sym n.1)
 
       go : Dec (SizeOk (length w)) → Dec (length v ≡ length w) → Dec (Accepted w) → (a ≡ b) × (left ≡ right)
-      go (no d) e h = join _ _ (x.wrong_length_lem d) (y.wrong_length_lem d)
+      go (no d) e h = join _ _ (x.bad_length d) (y.bad_length d)
       go (yes s) (no d) h = join _ _ (x.other_length s d) (y.other_length s d)
       go (yes s) (yes e) (no h) = join _ _ (x.bad s e h) (y.bad s e h)
       go (yes s) (yes e) (yes h) = join _ _ (x.packs h e) (y.packs h e)

@@ -10,7 +10,7 @@ use lib.ListN.{length, get_or, set, take, drop, replicate, length-set, length-dr
 use lib.Seq.{get_or-set_same, get_or-set_other, get_or-drop, get_or-take, get_or-append-add, length-take-le}
 use borrow.Author.Tests.{ltb-true, ltb-false, lt-ltb, eq-eqb, ne_eqb}
 use borrow.Rule.Slice.PartMut.{put_mid, same_len_mid}
-use Rattle.rules.specs.Basics.{if◌then◌else◌}
+use Rattle.std.specs.Prelude.{if◌then◌else◌}
 use Rattle.rules.specs.Opening.{Opening, records_in}
 use Rattle.queue_event.specs.Words.{In, put}
 use Rattle.layout.specs.Accepted.{SizeOk}

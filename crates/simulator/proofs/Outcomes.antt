@@ -56,7 +56,7 @@ module _ (frees : (w : List ℕ) → Accepted w → FreeRecords w) where
   by_row w c n none acc e q d = absurd (d q)
   by_row w c n (some m) acc e q d =
       record {
-        wrong_length_lem = λ s. absurd (s acc.size);
+        bad_length = λ s. absurd (s acc.size);
         bad = λ s b. absurd (b acc);
         answer = λ a. ap (λ (x : ℕ). refused_as x 0) q ∙ sym (ap (λ (o : Option ℕ). (unless_refused o (state_of w) (work (state_of w) c)).answer) e);
         state = λ a. subst (λ (s : State). Left w s w) (sym (ap (λ (o : Option ℕ). (unless_refused o (state_of w) (work (state_of w) c)).state) e)) (unchanged w a);
@@ -67,7 +67,7 @@ module _ (frees : (w : List ℕ) → Accepted w → FreeRecords w) where
   pub by_number : (w : List ℕ) (c : Call) (n : ℕ) → Numbered w c n → (n ≡ 0 → ⊥) → Outcome w c (refused_as n 0) w
   by_number w c n (inl (bad, e)) d =
       record {
-        wrong_length_lem = λ _. (ap (λ (x : ℕ). refused_as x 0) e, refl);
+        bad_length = λ _. (ap (λ (x : ℕ). refused_as x 0) e, refl);
         bad = λ s b. absurd (bad s);
         answer = λ a. absurd (bad a.size);
         state = λ a. absurd (bad a.size);
@@ -76,7 +76,7 @@ module _ (frees : (w : List ℕ) → Accepted w → FreeRecords w) where
       }
   by_number w c n (inr (inl (size, (bad, e)))) d =
       record {
-        wrong_length_lem = λ s. absurd (s size);
+        bad_length = λ s. absurd (s size);
         bad = λ _ _. (ap (λ (x : ℕ). refused_as x 0) e, refl);
         answer = λ a. absurd (bad a);
         state = λ a. absurd (bad a);
@@ -99,7 +99,7 @@ module _ (frees : (w : List ℕ) → Accepted w → FreeRecords w) where
   unfolding call
   by_work w c a left acc e k =
       record {
-        wrong_length_lem = λ s. absurd (s acc.size);
+        bad_length = λ s. absurd (s acc.size);
         bad = λ s b. absurd (b acc);
         answer = λ _. k.answer ∙ sym (ap (λ (o : Option ℕ). (unless_refused o (state_of w) (work (state_of w) c)).answer) e);
         state = λ _.

@@ -9,7 +9,8 @@ use mathlib.Core.Option.{map}
 use native.Mathlib.Omega.{arith}
 use lib.ListN.{get_or, take, drop}
 use borrow.Author.Tests.{ltb-false}
-use Rattle.rules.specs.Basics.{if◌then◌else◌, has_machine}
+use Rattle.std.specs.Prelude.{if◌then◌else◌}
+use Rattle.rules.specs.Basics.{has_machine}
 use Rattle.rules.specs.Choice.{done}
 use Rattle.rules.specs.Arguments.{Call, event_of, push}
 use Rattle.rules.specs.Queueing.{push_event}

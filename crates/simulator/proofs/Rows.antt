@@ -4,7 +4,7 @@ use mathlib.Core.Path.{◌≡◌, refl, sym, ap}
 use mathlib.Core.Bool.{Bool, true, false}
 use mathlib.Core.List.{List, [], ◌∷◌, ◌++◌, tail}
 use native.Mathlib.Omega.{arith}
-use Rattle.rules.specs.Basics.{if◌then◌else◌}
+use Rattle.std.specs.Prelude.{if◌then◌else◌}
 use Rattle.rules.specs.State.{State}
 use Rattle.rules.specs.Arguments.{Call, push, set_action, clear_action, set_timer, clear_timer, pick_next, sim_network_stack}
 use Rattle.rules.specs.Refusals.{refusal, table}

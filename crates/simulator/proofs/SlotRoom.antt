@@ -8,7 +8,8 @@ use native.Mathlib.Omega.{arith}
 use lib.Dec.{eqb, ltb}
 use lib.ListN.{length, get_or, set}
 use borrow.Author.Tests.{le-ltb, ne_eqb}
-use Rattle.rules.specs.Basics.{if◌then◌else◌, Side, client, server}
+use Rattle.std.specs.Prelude.{if◌then◌else◌}
+use Rattle.rules.specs.Basics.{Side, client, server}
 use Rattle.rules.specs.State.{Action, SideState, State, held, one, side, side_reserved, side_used, with_actions, with_side, with_timers, used as used_of, reserved as reserved_of}
 use Rattle.rules.specs.Effects.{timer_set}
 use Rattle.rules.specs.Refusals.{full}

@@ -7,7 +7,8 @@ use mathlib.Core.Logic.{inl, inr}
 use native.Mathlib.Omega.{arith}
 use lib.Dec.{ltb}
 use borrow.Author.Tests.{eq-eqb, ltb-false}
-use Rattle.rules.specs.Basics.{if◌then◌else◌, kind_of}
+use Rattle.std.specs.Prelude.{if◌then◌else◌}
+use Rattle.rules.specs.Basics.{kind_of}
 use Rattle.rules.specs.Limits.{moment_limit, delay_limit}
 use Rattle.rules.specs.Choice.{Answer, refused}
 use Rattle.rules.specs.Arguments.{EventIn, sim_network_stack}

@@ -8,7 +8,8 @@ use native.Mathlib.Omega.{arith}
 use lib.Dec.{ltb, leb}
 use lib.ListN.{take, drop}
 use borrow.Author.Tests.{eq-eqb, ne_eqb}
-use Rattle.rules.specs.Basics.{if◌then◌else◌, kind_of}
+use Rattle.std.specs.Prelude.{if◌then◌else◌}
+use Rattle.rules.specs.Basics.{kind_of}
 use Rattle.rules.specs.Limits.{moment_limit}
 use Rattle.rules.specs.State.{State}
 use Rattle.rules.specs.Arguments.{EventIn, sim_network_stack}

@@ -1,7 +1,6 @@
 -- An event and an action as they are kept. Assumes nothing.
-use Rattle.std.specs.Prelude.{ℕ, ◌≤◌, ◌≡◌, set}
+use Rattle.std.specs.Prelude.{ℕ, ◌≤◌, ◌≡◌, set, if◌then◌else◌}
 use Rattle.std.proofs.Math.Option.{Option}
-use Rattle.rules.specs.Basics.{if◌then◌else◌}
 use Rattle.rules.specs.State.{Action, State, side, with_actions, with_side}
 use Rattle.rules.specs.ChoiceRound.{Slot}
 use Rattle.rules.specs.Arguments.{ActionIn, action_kind_of}

@@ -32,7 +32,7 @@ pub record Left (w : List ℕ) (s : State) (left : List ℕ) : Type 0 where
 -- the call c on the words w: its answer, and the words left
 pub record Outcome (w : List ℕ) (c : Call) (a : Answer) (left : List ℕ) : Type 0 where
   -- 1: "length isn't 256 + 4R"; 2: "state not accepted"
-  pub wrong_length_lem : (SizeOk (length w) → ⊥) → (a ≡ refused 1 0) × (left ≡ w)
+  pub bad_length : (SizeOk (length w) → ⊥) → (a ≡ refused 1 0) × (left ≡ w)
   pub bad : SizeOk (length w) → (Accepted w → ⊥) → (a ≡ refused 2 0) × (left ≡ w)
   -- else what the rules say of the state: answer, rounds and state left, refusals 3 to 10 included
   pub answer : Accepted w → a ≡ (call (state_of w) c).answer

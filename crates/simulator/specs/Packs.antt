@@ -8,7 +8,7 @@ use Rattle.layout.specs.Packed.{packed_words}
 -- reading
 pub record Packs (w v : List ℕ) (a : Answer) (left : List ℕ) : Type 0 where
   -- 1: "length isn't 256 + 4R"
-  pub wrong_length_lem : (SizeOk (length w) → ⊥) → (a ≡ refused 1 0) × (left ≡ v)
+  pub bad_length : (SizeOk (length w) → ⊥) → (a ≡ refused 1 0) × (left ≡ v)
   -- "A second block of another length gives 1."
   pub other_length : SizeOk (length w) → (length v ≡ length w → ⊥) → (a ≡ refused 1 0) × (left ≡ v)
   -- 2: "state not accepted"

@@ -1,6 +1,5 @@
 -- The rows 5 to 8 of a network step, which are tested before its plan is made. Assumes nothing.
-use Rattle.std.specs.Prelude.{ℕ, ◌≡◌, Bool, ◌||◌, List, [], ◌∷◌, ltb}
-use Rattle.rules.specs.Basics.{if◌then◌else◌}
+use Rattle.std.specs.Prelude.{ℕ, ◌≡◌, Bool, ◌||◌, List, [], ◌∷◌, ltb, if◌then◌else◌}
 use Rattle.rules.specs.Limits.{moment_limit}
 use Rattle.rules.specs.State.{State}
 use Rattle.rules.specs.Arguments.{EventIn}

@@ -12,14 +12,14 @@ use moment::Length;
 use queue_event::words;
 
 // A rate that may be absent.
-#[derive(Drop)]
+#[derive(Clone, Copy)]
 pub enum Rate {
     Absent,
     Packets(u64),
 }
 
 // What opening is given for a side.
-#[derive(Drop)]
+#[derive(Clone, Copy)]
 pub struct SideOpening {
     pub action_delay: Length,
     pub reporting_delay: Length,
@@ -27,7 +27,7 @@ pub struct SideOpening {
 }
 
 // What opening is given.
-#[derive(Drop)]
+#[derive(Clone, Copy)]
 pub struct Opening {
     pub network_delay: Length,
     pub network_rate: Rate,

@@ -1,0 +1,14 @@
+-- `accept::header::each_slot` meets its contract. Assumes nothing.
+use Prim.Native.Nat.{◌-◌, ◌≤◌}
+use mathlib.Core.Path.{◌≡◌}
+use native.Mathlib.Omega.{arith}
+use Rattle.layout.proofs.Deciding.{refused, passed}
+use Rattle.accept.specs.Slots.{OkIn, RoomIn, FoundIn}
+use Rattle.accept.proofs.Slots.{ok_more, room_start, room_turn}
+use Rattle.accept.proofs.header.each_slot.Given as goal
+
+abbrev pub invariant-loop-j : goal.invariant-loop-j
+invariant-loop-j l = (l.from ≤ l.j) × (l.j ≤ l.end) × OkIn l.header l.from l.j × RoomIn l.header l.from l.j l.sum
+
+abbrev pub decreases-loop-j : goal.decreases-loop-j
+decreases-loop-j l = l.end - l.j

@@ -1,2 +1,0 @@
-// A line of a call list, byte by byte: how its bytes form words (docs/CALLS.md).
-pub mod line;

@@ -1,4 +1,0 @@
-pub mod Asked
-pub mod Names
-pub mod Shapes
-pub mod Text

@@ -1,4 +1,0 @@
-// The words of a line of a call list: which call they name, and what they ask for (docs/CALLS.md).
-pub mod asked;
-pub mod names;
-pub mod shapes;

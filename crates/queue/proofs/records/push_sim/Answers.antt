@@ -1,0 +1,15 @@
+-- `queue::records::push_sim` meets its contract. Assumes nothing.
+use Rattle.queue.proofs.Pushing.{place_small, push_may, push_ordered, push_done}
+use Rattle.queue.proofs.records.push_sim.Goals as goal
+
+pub chain-k-requires : goal.chain-k-requires
+chain-k-requires c = search place_small
+
+pub queue_record-requires-clause-fact_1 : goal.queue_record-requires-clause-fact_1
+queue_record-requires-clause-fact_1 c = search push_may
+
+pub queue_record-requires-clause-fact_2 : goal.queue_record-requires-clause-fact_2
+queue_record-requires-clause-fact_2 c = search push_ordered
+
+pub returns : goal.returns
+returns c = search push_done

@@ -1,0 +1,14 @@
+-- `queue_peek::slots::least_action` meets its contract. Assumes nothing.
+use Prim.Native.Nat.{◌≤◌}
+use mathlib.Core.Path.{◌≡◌}
+use native.Mathlib.Omega.{arith}
+use Rattle.queue_peek.specs.Decoded.{delay_of}
+use Rattle.queue_peek.specs.Promises.{actions_from_on}
+use Rattle.queue_peek.proofs.SlotDelays.{actions_start, actions_turn, actions_end}
+use Rattle.queue_peek.proofs.slots.least_action.Given as goal
+
+abbrev pub invariant-loop-m : goal.invariant-loop-m
+invariant-loop-m l = (l.m ≤ 16) × (delay_of l.best ≡ actions_from_on l.head l.client l.time.0 l.m)
+
+abbrev pub decreases-loop-m : goal.decreases-loop-m
+decreases-loop-m l = l.m

@@ -1,0 +1,26 @@
+-- `round::choice::pick_next_rounds` meets its contract. Assumes nothing.
+use borrow.Author.Rules.{rules}
+use Rattle.rules.specs.State.{rounds_left}
+use Rattle.layout.specs.Layout.{state_of}
+use Rattle.round.specs.Rounds.{Choosing}
+use Rattle.round.proofs.ActLaws.{rounds_fit}
+use Rattle.round.proofs.ChoiceLaws.{choice_begins, choice_ends, turn_falls, turn_goes}
+use Rattle.round.proofs.choice.pick_next_rounds.Goals as goal
+
+pub loop-c-init : goal.loop-c-init
+loop-c-init c = choice_begins _ _ c.requires
+
+pub round-p-requires : goal.round-p-requires
+round-p-requires c = c.loop-c.invariant.may
+
+pub returns-in-Answered : goal.returns-in-Answered
+returns-in-Answered c = choice_ends _ _ _ _ _ _ c.loop-c.invariant c.round-p.ensures _ (search rules)
+
+pub overflow_add-rounds : goal.overflow_add-rounds
+overflow_add-rounds c = record { fits = rounds_fit _ _ _ c.loop-c.invariant.may }
+
+pub loop-c-smaller : goal.loop-c-smaller
+loop-c-smaller c = turn_falls _ _ _ _ _ _ c.loop-c.invariant c.round-p.ensures (search rules)
+
+pub loop-c-preserved : goal.loop-c-preserved
+loop-c-preserved c = turn_goes _ _ _ _ _ _ c.loop-c.invariant c.round-p.ensures (search rules)

@@ -1,0 +1,19 @@
+-- `simulator::pack::pack` meets its contract. Assumes nothing.
+use Rattle.layout.proofs.Deciding.{passed}
+use Rattle.simulator.proofs.Packing.{packs_length, packs_other, packs_bad, packs_done}
+use Rattle.simulator.proofs.pack.pack.Goals as goal
+
+pub returns-then-not-size_ok : goal.returns-then-not-size_ok
+returns-then-not-size_ok c = search packs_length
+
+pub returns-then-second-block : goal.returns-then-second-block
+returns-then-second-block c = search packs_other
+
+pub returns-then-not-accepted : goal.returns-then-not-accepted
+returns-then-not-accepted c = search packs_bad
+
+pub pack-requires-clause-fact_1 : goal.pack-requires-clause-fact_1
+pack-requires-clause-fact_1 c = passed c.accepted.ensures c.if-not-accepted.false-raw
+
+pub returns : goal.returns
+returns c = search packs_done

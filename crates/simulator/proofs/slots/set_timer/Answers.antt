@@ -1,0 +1,10 @@
+-- `simulator::slots::set_timer` meets its contract. Assumes nothing.
+use Rattle.simulator.proofs.Admitting.{lent_accepted}
+use Rattle.simulator.proofs.Working.{lent_outcome}
+use Rattle.simulator.proofs.slots.set_timer.Goals as goal
+
+pub returns-then-n-ne0 : goal.returns-then-n-ne0
+returns-then-n-ne0 c = search lent_outcome
+
+pub set_timer_on-requires : goal.set_timer_on-requires
+set_timer_on-requires c = search lent_accepted
