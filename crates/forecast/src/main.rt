@@ -1,5 +1,6 @@
 // Reads call lists from standard input and writes the answer of each call (docs/CALLS.md).
 #![tactic(auto)]
+
 ghost use Rattle.std.specs.Prelude.{◌≡◌, ◌≤◌, ◌<◌, length};
 ghost use Rattle.call_list.specs.Lent.{Known};
 

@@ -10,7 +10,7 @@ use Rattle.rules.specs.State.{Event, Held, in_record, Chain, State, side, with_s
 use Rattle.rules.specs.Queueing.{chain_of, insert, put_event, push_event}
 use Rattle.rules.specs.ChoiceHeads.{Head}
 use Rattle.rules.specs.ChoiceRound.{lift_event, take_event}
-use Rattle.queue_event.specs.Words.{next_of, tag_of, put}
+use Rattle.queue_event.specs.Words.{next_of, tag_of}
 use Rattle.queue_event.specs.Tag.{mark_of}
 use Rattle.queue_event.specs.Chain.{rank_of, rec_at, Node, nodes, Is, Chain as LinkedFrom}
 use Rattle.queue_event.specs.Frame.{Popped, freed}

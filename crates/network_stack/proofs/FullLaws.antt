@@ -39,7 +39,6 @@ use Rattle.queue.proofs.Sizes.{free_length}
 use Rattle.network.proofs.PaddingLaws.{padding_step_lem}
 use Rattle.network.proofs.RoomLaws.{aggregates_long, padding_used, tunnel_used}
 use Rattle.network.proofs.TunnelLaws.{tunnel_step_lem}
-use Rattle.layout.proofs.PushPop.{new}
 use Rattle.layout.proofs.Shapes.{accepted_shaped}
 use Rattle.queue.proofs.Changing.{count_word, shaped_count}
 use Rattle.network_stack.specs.declared.plan.Plan.{Plan}

@@ -1,5 +1,5 @@
 -- What the parts of a step that write ask of the lent words: their shape, and free records enough. Assumes nothing.
-use Rattle.std.specs.Prelude.{ℕ, ◌+◌, ◌≤◌, ◌≡◌, List, length}
+use Rattle.std.specs.Prelude.{ℕ, ◌+◌, ◌≤◌, ◌≡◌, List}
 use Rattle.rules.specs.Basics.{Side}
 use Rattle.rules.specs.State.{side}
 use Rattle.layout.specs.Layout.{state_of}

@@ -12,7 +12,7 @@ use Rattle.rules.specs.Limits.{moment_limit}
 use Rattle.rules.specs.ChoiceHeads.{head_as}
 use Rattle.event.specs.declared.SimEvent.{SimEvent}
 use Rattle.event.specs.HandedIn.{side_of}
-use Rattle.queue_event.specs.Words.{moment_of, length_of, tag_of, In}
+use Rattle.queue_event.specs.Words.{In}
 use Rattle.queue_event.specs.Chain.{Rec, rec_at, nodes}
 use Rattle.queue_event.specs.Values.{read_event}
 use Rattle.queue_event.specs.Tag.{flag as flag_of, flag, kind_field, padding_field, bypass_field, replace_field, machine_field}

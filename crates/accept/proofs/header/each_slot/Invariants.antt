@@ -1,10 +1,6 @@
 -- `accept::header::each_slot` meets its contract. Assumes nothing.
 use Prim.Native.Nat.{◌-◌, ◌≤◌}
-use mathlib.Core.Path.{◌≡◌}
-use native.Mathlib.Omega.{arith}
-use Rattle.layout.proofs.Deciding.{refused, passed}
-use Rattle.accept.specs.Slots.{OkIn, RoomIn, FoundIn}
-use Rattle.accept.proofs.Slots.{ok_more, room_start, room_turn}
+use Rattle.accept.specs.Slots.{OkIn, RoomIn}
 use Rattle.accept.proofs.header.each_slot.Given as goal
 
 abbrev pub invariant-loop-j : goal.invariant-loop-j

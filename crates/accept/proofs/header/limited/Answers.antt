@@ -1,9 +1,6 @@
 -- `accept::header::limited` meets its contract. Assumes nothing.
-use Prim.Native.Nat.{ℕ, ◌-◌, ◌≤◌, ◌<◌}
 use native.Mathlib.Omega.{arith}
-use lib.ListN.{get_or}
 use borrow.Author.Count.{below_none, below_more}
-use Rattle.layout.specs.Header.{limits as limits_of}
 use Rattle.layout.proofs.Deciding.{holds, fails}
 use Rattle.accept.proofs.header.limited.Goals as goal
 

@@ -1,8 +1,7 @@
 -- `accept::header::none_set` meets its contract. Assumes nothing.
-use Prim.Native.Nat.{◌-◌, ◌≤◌}
 use native.Mathlib.Omega.{arith}
 use Rattle.layout.proofs.Deciding.{by_eqb}
-use Rattle.accept.proofs.Slots.{Ored, ored_start, ored_turn}
+use Rattle.accept.proofs.Slots.{ored_start, ored_turn}
 use Rattle.accept.proofs.header.none_set.Goals as goal
 
 pub loop-i-init : goal.loop-i-init

@@ -1,8 +1,6 @@
 -- `accept::header::none_set` meets its contract. Assumes nothing.
 use Prim.Native.Nat.{◌-◌, ◌≤◌}
-use native.Mathlib.Omega.{arith}
-use Rattle.layout.proofs.Deciding.{by_eqb}
-use Rattle.accept.proofs.Slots.{Ored, ored_start, ored_turn}
+use Rattle.accept.proofs.Slots.{Ored}
 use Rattle.accept.proofs.header.none_set.Given as goal
 
 abbrev pub invariant-loop-i : goal.invariant-loop-i

@@ -1,8 +1,6 @@
 -- `accept::header::slots_room` meets its contract. Assumes nothing.
-use Prim.Native.Nat.{◌-◌, ◌≤◌}
 use mathlib.Core.Path.{◌≡◌}
 use native.Mathlib.Omega.{arith}
-use Rattle.accept.specs.Slots.{RoomIn}
 use Rattle.accept.proofs.Slots.{room_start, room_turn}
 use Rattle.accept.proofs.header.slots_room.Goals as goal
 

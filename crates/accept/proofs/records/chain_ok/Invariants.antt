@@ -1,7 +1,6 @@
 -- `accept::records::chain_ok` meets its contract. Assumes nothing.
-use native.Mathlib.Omega.{arith}
 use Rattle.layout.specs.Records.{Chain}
-use Rattle.layout.proofs.Walk.{Rest, rest_all, walk_ended, walk_outside, walk_unfit, walk_disorder, walk_turn, walk_ends}
+use Rattle.layout.proofs.Walk.{Rest}
 use Rattle.accept.proofs.records.chain_ok.Given as goal
 
 abbrev pub invariant-loop-left : goal.invariant-loop-left

@@ -1,10 +1,6 @@
 -- `accept::records::chains_ok` meets its contract. Assumes nothing.
 use Prim.Native.Nat.{ℕ, ◌<◌, ◌≤◌, ◌-◌}
-use native.Mathlib.Omega.{arith}
-use borrow.Author.Count.{below_none, below_more}
 use Rattle.layout.specs.Records.{ChainOk, chain_count}
-use Rattle.layout.proofs.Walk.{chain_ok, ok_chain}
-use Rattle.layout.proofs.Deciding.{fails, holds, refused, passed}
 use Rattle.accept.proofs.records.chains_ok.Given as goal
 
 abbrev pub invariant-loop-k : goal.invariant-loop-k

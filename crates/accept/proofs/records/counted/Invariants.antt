@@ -1,9 +1,7 @@
 -- `accept::records::counted` meets its contract. Assumes nothing.
 use Prim.Native.Nat.{◌-◌, ◌*◌, ◌≤◌}
 use mathlib.Core.Path.{◌≡◌}
-use native.Mathlib.Omega.{arith}
 use Rattle.layout.specs.Records.{counts_to}
-use Rattle.layout.proofs.Sums.{counts_to_zero, counts_to_more}
 use Rattle.accept.proofs.records.counted.Given as goal
 
 abbrev pub invariant-loop-k : goal.invariant-loop-k

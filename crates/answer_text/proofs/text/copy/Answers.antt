@@ -1,8 +1,6 @@
 -- `answer_text::text::copy` meets its contract. Assumes nothing.
-use Prim.Native.Nat.{◌≤◌, ◌-◌}
-use mathlib.Core.Path.{◌≡◌}
 use native.Mathlib.Omega.{arith}
-use lib.ListN.{length, length-set}
+use lib.ListN.{length-set}
 use Rattle.answer_text.proofs.text.copy.Goals as goal
 
 pub loop-i-init : goal.loop-i-init

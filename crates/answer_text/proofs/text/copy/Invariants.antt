@@ -1,8 +1,7 @@
 -- `answer_text::text::copy` meets its contract. Assumes nothing.
 use Prim.Native.Nat.{◌≤◌, ◌-◌}
 use mathlib.Core.Path.{◌≡◌}
-use native.Mathlib.Omega.{arith}
-use lib.ListN.{length, length-set}
+use lib.ListN.{length}
 use Rattle.answer_text.proofs.text.copy.Given as goal
 
 abbrev pub invariant-loop-i : goal.invariant-loop-i

@@ -1,9 +1,5 @@
 -- `call_list::line::scan_piece` meets its contract. Assumes nothing.
 use borrow.Author.Rules.{rules}
-use Prim.Native.Nat.{◌≤◌, ◌-◌}
-use mathlib.Core.Path.{◌≡◌}
-use lib.ListN.{length}
-use Rattle.call_list.specs.Lent.{Known}
 use Rattle.call_list.proofs.line.scan_piece.Goals as goal
 
 pub loop-i-preserved : goal.loop-i-preserved

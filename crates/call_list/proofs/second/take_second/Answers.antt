@@ -1,8 +1,6 @@
 -- `call_list::second::take_second` meets its contract. Assumes nothing.
 use borrow.Author.Rules.{rules}
-use Prim.Native.Nat.{◌≤◌, ◌-◌}
-use mathlib.Core.Path.{◌≡◌, refl}
-use lib.ListN.{length, take}
+use mathlib.Core.Path.{refl}
 use Rattle.call_list.proofs.TakeLaws.{copied_turn, copied_all, takes_none}
 use Rattle.call_list.proofs.second.take_second.Goals as goal
 

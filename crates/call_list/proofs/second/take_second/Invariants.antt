@@ -1,8 +1,7 @@
 -- `call_list::second::take_second` meets its contract. Assumes nothing.
 use Prim.Native.Nat.{◌≤◌, ◌-◌}
-use mathlib.Core.Path.{◌≡◌, refl}
+use mathlib.Core.Path.{◌≡◌}
 use lib.ListN.{length, take}
-use Rattle.call_list.proofs.TakeLaws.{copied_turn, copied_all, takes_none}
 use Rattle.call_list.proofs.second.take_second.Given as goal
 
 abbrev pub invariant-loop-i : goal.invariant-loop-i

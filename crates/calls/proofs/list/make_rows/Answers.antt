@@ -1,8 +1,7 @@
 -- `calls::list::make_rows` meets its contract. Assumes nothing.
 use borrow.Author.Rules.{rules}
-use Prim.Native.Nat.{◌-◌}
 use native.Mathlib.Omega.{arith}
-use Rattle.calls.proofs.Listing.{Listing, row_read, row_write, listing_none, listing_stop, listing_end, listing_ends, listing_more}
+use Rattle.calls.proofs.Listing.{row_read, row_write, listing_none, listing_stop, listing_end, listing_ends, listing_more}
 use Rattle.calls.proofs.list.make_rows.Goals as goal
 
 pub loop-at-init : goal.loop-at-init

@@ -1,7 +1,6 @@
 -- `calls::list::make_rows` meets its contract. Assumes nothing.
 use Prim.Native.Nat.{◌-◌}
-use native.Mathlib.Omega.{arith}
-use Rattle.calls.proofs.Listing.{Listing, row_read, row_write, listing_none, listing_stop, listing_end, listing_ends, listing_more}
+use Rattle.calls.proofs.Listing.{Listing}
 use Rattle.calls.proofs.list.make_rows.Given as goal
 
 abbrev pub invariant-loop-at : goal.invariant-loop-at

@@ -1,8 +1,7 @@
 -- `calls::turn::bit` meets its contract. Assumes nothing.
 use Rattle.calls.proofs.Listing.{bit_more, bit_end}
 use native.Mathlib.Omega.{arith}
-use Rattle.calls.specs.Rows.{bit}
-use mathlib.Core.Path.{◌≡◌, refl, ◌∙◌}
+use mathlib.Core.Path.{refl, ◌∙◌}
 use Rattle.calls.proofs.turn.bit.Goals as goal
 
 pub loop-left-init : goal.loop-left-init

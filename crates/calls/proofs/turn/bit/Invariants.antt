@@ -1,8 +1,6 @@
 -- `calls::turn::bit` meets its contract. Assumes nothing.
-use Rattle.calls.proofs.Listing.{bit_more, bit_end}
-use native.Mathlib.Omega.{arith}
 use Rattle.calls.specs.Rows.{bit}
-use mathlib.Core.Path.{◌≡◌, refl, ◌∙◌}
+use mathlib.Core.Path.{◌≡◌}
 use Rattle.calls.proofs.turn.bit.Given as goal
 
 abbrev pub invariant-loop-left : goal.invariant-loop-left

@@ -1,9 +1,7 @@
 -- `calls::written::write` meets its contract. Assumes nothing.
 use Prim.Native.Nat.{◌-◌}
-use mathlib.Core.Path.{sym, ◌∙◌}
-use native.Mathlib.Omega.{arith}
 use lib.ListN.{length}
-use Rattle.calls.proofs.Writing.{Copied, left_as_it_was, copied_none, copied_more, copied_all}
+use Rattle.calls.proofs.Writing.{Copied}
 use Rattle.calls.proofs.written.write.Given as goal
 
 abbrev pub invariant-loop-i : goal.invariant-loop-i

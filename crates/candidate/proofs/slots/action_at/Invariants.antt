@@ -1,9 +1,6 @@
 -- `candidate::slots::action_at` meets its contract. Assumes nothing.
 use Prim.Native.Nat.{◌≤◌, ◌-◌}
-use native.Mathlib.Omega.{arith}
-use Rattle.queue_peek.proofs.BeyondMachines.{machines_few}
 use Rattle.candidate.specs.Promises.{moment_in, Missed}
-use Rattle.candidate.proofs.SlotLaws.{missed_start, action_next, action_found, action_nowhere}
 use Rattle.candidate.proofs.slots.action_at.Given as goal
 
 abbrev pub invariant-loop-m : goal.invariant-loop-m

@@ -1,9 +1,6 @@
 -- `candidate::slots::timer_at` meets its contract. Assumes nothing.
 use Prim.Native.Nat.{◌≤◌, ◌-◌}
-use native.Mathlib.Omega.{arith}
-use Rattle.queue_peek.proofs.BeyondMachines.{machines_few}
 use Rattle.candidate.specs.Promises.{timer_in, Missed}
-use Rattle.candidate.proofs.SlotLaws.{missed_start, timer_next, timer_found, timer_nowhere}
 use Rattle.candidate.proofs.slots.timer_at.Given as goal
 
 abbrev pub invariant-loop-m : goal.invariant-loop-m

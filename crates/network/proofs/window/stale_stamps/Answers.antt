@@ -1,10 +1,5 @@
 -- `network::window::stale_stamps` meets its contract. Assumes nothing.
-use mathlib.Core.List.{map}
 use native.Mathlib.Omega.{arith}
-use Rattle.queue_event.specs.Chain.{nodes}
-use Rattle.layout.specs.Layout.{held_stamp}
-use Rattle.queue.specs.Stamps.{stale_count}
-use Rattle.network.specs.Stamps.{Ages}
 use Rattle.network.proofs.StampLaws.{ages_start, ages_in, ages_fits, ages_turn, count_end, count_stop}
 use Rattle.network.proofs.window.stale_stamps.Goals as goal
 

@@ -1,7 +1,5 @@
 -- `network_stack::window_count::evict` meets its contract. Assumes nothing.
 use native.Mathlib.Omega.{arith}
-use Rattle.event.specs.HandedIn.{side_of}
-use Rattle.network_stack.specs.Windows.{Evicting}
 use Rattle.network_stack.proofs.EvictLaws.{evicting_starts, evict_wide, evict_in, evict_may, evict_turn, evict_done}
 use Rattle.network_stack.proofs.window_count.evict.Goals as goal
 

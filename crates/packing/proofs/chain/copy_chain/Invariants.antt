@@ -1,13 +1,10 @@
 -- `packing::chain::copy_chain` meets its contract. Assumes nothing.
 use Prim.Native.Nat.{◌+◌, ◌-◌, ◌*◌}
-use mathlib.Core.Path.{refl}
 use mathlib.Core.List.{◌++◌}
-use native.Mathlib.Omega.{arith}
 use lib.ListN.{take}
 use Rattle.queue_event.specs.Chain.{contents}
 use Rattle.layout.specs.Packed.{chain_words}
 use Rattle.packing.specs.Copying.{Copies}
-use Rattle.packing.proofs.Copied.{copy_in, copy_from, copy_end, copy_turn}
 use Rattle.packing.proofs.chain.copy_chain.Given as goal
 
 abbrev pub invariant-loop-left : goal.invariant-loop-left

@@ -1,7 +1,5 @@
 -- `packing::header::read_chains` meets its contract. Assumes nothing.
-use Prim.Native.Nat.{◌-◌}
 use native.Mathlib.Omega.{arith}
-use Rattle.packing.specs.Heads.{Reads}
 use Rattle.packing.proofs.Headers.{reads_none, reads_turn, reads_heads, reads_counts}
 use Rattle.packing.proofs.header.read_chains.Goals as goal
 

@@ -1,7 +1,5 @@
 -- `packing::header::start_chains` meets its contract. Assumes nothing.
-use Prim.Native.Nat.{◌-◌}
 use native.Mathlib.Omega.{arith}
-use Rattle.packing.specs.Heads.{Starts}
 use Rattle.packing.proofs.Headers.{starts_none, starts_fit, starts_turn, starts_all}
 use Rattle.packing.proofs.header.start_chains.Goals as goal
 

@@ -1,8 +1,6 @@
 -- `packing::header::write_header` meets its contract. Assumes nothing.
 use Prim.Native.Nat.{◌-◌}
-use native.Mathlib.Omega.{arith}
 use Rattle.packing.specs.Heads.{HeaderTo}
-use Rattle.packing.proofs.Headers.{header_none, header_turn, header_all}
 use Rattle.packing.proofs.header.write_header.Given as goal
 
 abbrev pub invariant-loop-i : goal.invariant-loop-i

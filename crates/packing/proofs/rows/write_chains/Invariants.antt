@@ -1,8 +1,6 @@
 -- `packing::rows::write_chains` meets its contract. Assumes nothing.
 use Prim.Native.Nat.{◌-◌}
-use native.Mathlib.Omega.{arith}
 use Rattle.packing.specs.Writing.{chains_of, Writes}
-use Rattle.packing.proofs.Written.{chains_start, chains_row, chains_one, chains_fit, chains_turn, chains_end, chains_words}
 use Rattle.packing.proofs.rows.write_chains.Given as goal
 
 abbrev pub invariant-loop-done : goal.invariant-loop-done

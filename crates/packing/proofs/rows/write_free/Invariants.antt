@@ -1,12 +1,9 @@
 -- `packing::rows::write_free` meets its contract. Assumes nothing.
 use Prim.Native.Nat.{◌+◌, ◌-◌, ◌*◌}
-use mathlib.Core.Path.{refl}
 use mathlib.Core.List.{◌++◌}
-use native.Mathlib.Omega.{arith}
 use lib.ListN.{take}
 use Rattle.layout.specs.Packed.{chain_words, zero_recs}
 use Rattle.packing.specs.Writing.{Zeroes}
-use Rattle.packing.proofs.Written.{free_in_lem, free_end, free_turn}
 use Rattle.packing.proofs.rows.write_free.Given as goal
 
 abbrev pub invariant-loop-left : goal.invariant-loop-left

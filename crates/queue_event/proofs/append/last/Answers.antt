@@ -2,9 +2,6 @@
 use borrow.Author.Rules.{rules}
 use native.Mathlib.Omega.{arith}
 use mathlib.Core.Path.{refl}
-use Rattle.queue_event.specs.Chain.{nodes}
-use Rattle.queue_event.specs.Tail.{last_of}
-use Rattle.queue_event.specs.Loops.{Walks}
 use Rattle.queue_event.proofs.Laws.{chain_in}
 use Rattle.queue_event.proofs.Appends.{last_turn, last_end}
 use Rattle.queue_event.proofs.append.last.Goals as goal

@@ -1,11 +1,7 @@
 -- `queue_event::append::last` meets its contract. The loop keeps Walks: the last record of what is left, after pred, is that of the whole. Assumes nothing.
-use native.Mathlib.Omega.{arith}
-use mathlib.Core.Path.{refl}
 use Rattle.queue_event.specs.Chain.{nodes}
 use Rattle.queue_event.specs.Tail.{last_of}
 use Rattle.queue_event.specs.Loops.{Walks}
-use Rattle.queue_event.proofs.Laws.{chain_in}
-use Rattle.queue_event.proofs.Appends.{last_turn, last_end}
 use Rattle.queue_event.proofs.append.last.Given as goal
 
 abbrev pub invariant-loop-left : goal.invariant-loop-left

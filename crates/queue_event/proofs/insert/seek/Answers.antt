@@ -2,9 +2,6 @@
 use borrow.Author.Rules.{rules}
 use native.Mathlib.Omega.{arith}
 use mathlib.Core.Path.{refl}
-use Rattle.queue_event.specs.Chain.{nodes}
-use Rattle.queue_event.specs.Order.{spot}
-use Rattle.queue_event.specs.Loops.{Seeks}
 use Rattle.queue_event.proofs.Laws.{chain_in}
 use Rattle.queue_event.proofs.Inserts.{seek_turn, seek_stop, seek_end}
 use Rattle.queue_event.proofs.insert.seek.Goals as goal

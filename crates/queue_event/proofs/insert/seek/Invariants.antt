@@ -1,11 +1,7 @@
 -- `queue_event::insert::seek` meets its contract. The loop keeps Seeks: the place found in what is left, after pred, is that in the whole. Assumes nothing.
-use native.Mathlib.Omega.{arith}
-use mathlib.Core.Path.{refl}
 use Rattle.queue_event.specs.Chain.{nodes}
 use Rattle.queue_event.specs.Order.{spot}
 use Rattle.queue_event.specs.Loops.{Seeks}
-use Rattle.queue_event.proofs.Laws.{chain_in}
-use Rattle.queue_event.proofs.Inserts.{seek_turn, seek_stop, seek_end}
 use Rattle.queue_event.proofs.insert.seek.Given as goal
 
 abbrev pub invariant-loop-left : goal.invariant-loop-left

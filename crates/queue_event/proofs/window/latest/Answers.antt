@@ -2,9 +2,6 @@
 use borrow.Author.Rules.{rules}
 use native.Mathlib.Omega.{arith}
 use mathlib.Core.Path.{refl}
-use Rattle.queue_event.specs.Chain.{contents}
-use Rattle.queue_event.specs.Folds.{latest_of}
-use Rattle.queue_event.specs.Loops.{Latest}
 use Rattle.queue_event.proofs.Laws.{chain_in}
 use Rattle.queue_event.proofs.Folds.{latest_turn, latest_stop, latest_end}
 use Rattle.queue_event.proofs.window.latest.Goals as goal

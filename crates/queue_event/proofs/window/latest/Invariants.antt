@@ -1,11 +1,7 @@
 -- `queue_event::window::latest` meets its contract. The loop keeps Latest: the latest of what is left, at least best, is that of the whole. Assumes nothing.
-use native.Mathlib.Omega.{arith}
-use mathlib.Core.Path.{refl}
 use Rattle.queue_event.specs.Chain.{contents}
 use Rattle.queue_event.specs.Folds.{latest_of}
 use Rattle.queue_event.specs.Loops.{Latest}
-use Rattle.queue_event.proofs.Laws.{chain_in}
-use Rattle.queue_event.proofs.Folds.{latest_turn, latest_stop, latest_end}
 use Rattle.queue_event.proofs.window.latest.Given as goal
 
 abbrev pub invariant-loop-left : goal.invariant-loop-left

@@ -1,9 +1,5 @@
 -- `queue_peek::slots::least_action` meets its contract. Assumes nothing.
-use Prim.Native.Nat.{◌≤◌}
-use mathlib.Core.Path.{◌≡◌}
 use native.Mathlib.Omega.{arith}
-use Rattle.queue_peek.specs.Decoded.{delay_of}
-use Rattle.queue_peek.specs.Promises.{actions_from_on}
 use Rattle.queue_peek.proofs.SlotDelays.{actions_start, actions_turn, actions_end}
 use Rattle.queue_peek.proofs.slots.least_action.Goals as goal
 

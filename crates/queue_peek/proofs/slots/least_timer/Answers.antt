@@ -1,9 +1,5 @@
 -- `queue_peek::slots::least_timer` meets its contract. Assumes nothing.
-use Prim.Native.Nat.{◌≤◌}
-use mathlib.Core.Path.{◌≡◌}
 use native.Mathlib.Omega.{arith}
-use Rattle.queue_peek.specs.Decoded.{delay_of}
-use Rattle.queue_peek.specs.Promises.{timers_from_on}
 use Rattle.queue_peek.proofs.SlotDelays.{timers_start, timers_turn, timers_end}
 use Rattle.queue_peek.proofs.slots.least_timer.Goals as goal
 

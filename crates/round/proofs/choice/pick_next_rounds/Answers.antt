@@ -1,8 +1,5 @@
 -- `round::choice::pick_next_rounds` meets its contract. Assumes nothing.
 use borrow.Author.Rules.{rules}
-use Rattle.rules.specs.State.{rounds_left}
-use Rattle.layout.specs.Layout.{state_of}
-use Rattle.round.specs.Rounds.{Choosing}
 use Rattle.round.proofs.ActLaws.{rounds_fit}
 use Rattle.round.proofs.ChoiceLaws.{choice_begins, choice_ends, turn_falls, turn_goes}
 use Rattle.round.proofs.choice.pick_next_rounds.Goals as goal

@@ -2,8 +2,6 @@
 use Rattle.rules.specs.State.{rounds_left}
 use Rattle.layout.specs.Layout.{state_of}
 use Rattle.round.specs.Rounds.{Choosing}
-use Rattle.round.proofs.ActLaws.{rounds_fit}
-use Rattle.round.proofs.ChoiceLaws.{choice_begins, choice_ends, turn_falls, turn_goes}
 use Rattle.round.proofs.choice.pick_next_rounds.Given as goal
 
 abbrev pub invariant-loop-c : goal.invariant-loop-c

@@ -1,8 +1,6 @@
 -- `simulator::open::chain_free` meets its contract. Assumes nothing.
 use Rattle.simulator.specs.OpeningParts.{Chained}
 use Prim.Native.Nat.{◌-◌}
-use native.Mathlib.Omega.{arith}
-use Rattle.simulator.proofs.OpenWords.{chain_start, chain_turn, chain_end}
 use Rattle.simulator.proofs.open.chain_free.Given as goal
 
 abbrev pub invariant-loop-r : goal.invariant-loop-r

@@ -1,9 +1,7 @@
 -- `simulator::open::clear` meets its contract. Assumes nothing.
-use Rattle.simulator.specs.OpeningParts.{Cleared}
-use Prim.Native.Nat.{◌-◌}
 use mathlib.Core.Path.{refl}
 use native.Mathlib.Omega.{arith}
-use lib.ListN.{length-set, length}
+use lib.ListN.{length-set}
 use borrow.Author.Count.{below_none}
 use Rattle.simulator.proofs.OpenWords.{clear_turn, clear_end}
 use Rattle.simulator.proofs.open.clear.Goals as goal
