@@ -1,7 +1,7 @@
 //! Finds the archive that the crate stands on, and says how to make it where it is missing.
 //!
 //! `MAYBENOT_CORE_LIB` names the archive or the directory that holds it. Where it is not set, the archive is looked
-//! for in `../target/staticlib`, where `rt staticlib maybenot_core` puts it.
+//! for in `../target/staticlib`, where `tools/build maybenot_core` puts it.
 
 use std::env;
 use std::path::{Path, PathBuf};
@@ -29,7 +29,7 @@ fn main() {
     println!("cargo:rerun-if-changed={}", archive.display());
     if !archive.is_file() {
         eprintln!("maybenot-core: there is no {}", archive.display());
-        eprintln!("Make it with `rt staticlib maybenot_core` in the repository,");
+        eprintln!("Make it with `tools/build maybenot_core` in the repository,");
         eprintln!("or name the directory that holds {ARCHIVE} in MAYBENOT_CORE_LIB.");
         exit(1);
     }

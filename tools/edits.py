@@ -209,7 +209,7 @@ class Crate:
         for path in sorted(glob.glob(os.path.join(self.folder, "proofs/**/*.antt"), recursive=True)):
             file = os.path.relpath(path, os.path.join(self.folder, "proofs"))
             own = os.path.dirname(file).replace("/", ".")
-            for m in re.finditer(rf"Rattle·{self.name}·proofs\.proofs\.([\w.+]+)\.(?:Code|Lts|Tie|Proof)\b", read(path)):
+            for m in re.finditer(rf"Rattle\.{self.name}\.proofs\.([\w.+]+)\.(?:Code|Lts|Tie|Proof)\b", read(path)):
                 if m[1] != own:
                     amiss.append(f"proofs/{file} names the code of {m[1].replace('.', '::')}")
         return amiss

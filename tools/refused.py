@@ -7,8 +7,8 @@ With --text, before anything is proved:
   edits of several functions may share a file: a proof reads the contracts of other functions, never their bodies;
 - an edit of anything else, as of specs/, has a file of its own;
 - no proof names what is made of another function's code.
-After `rt ci` or `rt must-fail`, in LOGS/CRATE/FILE/.log (default ROOT/target/must-fail):
-- rt refused the file;
+After tools/try_edits.py, in LOGS/CRATE/FILE/.log (default ROOT/target/must-fail):
+- the prover refused the file;
 - each function that an edit expects is not proved, by a failed need of its own: not because a callee "was not admitted", nor
   because a proof no longer fits the changed function;
 - no other function fails by a need of its own: the edits account for every failure;
@@ -24,25 +24,28 @@ ERROR = re.compile(r"^(?P<path>[^\n`:]+\.antt):(?P<line>\d+):\d+: error: (?P<sai
 # what antt says where a fact fails. Anything else is none: that a callee was not admitted, or that a proof no longer fits the changed code
 FACT = re.compile(
     r"`[^`]+`: (?:`\w+`: )?(?:no proof of `|the (?:part `[^`]*` of the )?goal does not follow"
-    r"|(?:as printed|computed as far as they go), the two (?:types|sides) |expected type `(?!tie\.)|list the missing equation)"
+    r"|(?:as printed|computed as far as they go), the two (?:types|sides) |expected type `(?!goal\.)|list the missing equation)"
 )
+# the files that hold a function's proof
+PROOFS = ("Answers.antt", "Invariants.antt", "Proof.antt")
 
 
 def needs_failed(log, crate):
     """FUNCTION -> what fails in its own proof: the needs, and what else is said that is not the callees' fault."""
     found = {name: ([], []) for name in crate.names}
     for m in ERROR.finditer(log):
-        function = re.search(r"/proofs/(.+)/Proof\.antt$", m["path"])
+        function = re.search(r"/proofs/(.+)/(?:Answers|Invariants|Proof)\.antt$", m["path"])
         if not function or function[1].replace("/", "::") not in found:
             continue
         needs, others = found[function[1].replace("/", "::")]
-        proof = read(os.path.join(crate.folder, "proofs", function[1], "Proof.antt"))
-        if FACT.match(m["said"]) and re.search(rf"^{re.escape(m['name'])} :.*\bNeed-", proof, re.M):
+        files = [os.path.join(crate.folder, "proofs", function[1], f) for f in PROOFS]
+        proof = "\n".join(read(f) for f in files if os.path.isfile(f))
+        if FACT.match(m["said"]) and re.search(rf"^(?:pub )?{re.escape(m['name'])} :\s+goal\.", proof, re.M):
             needs.append(m["said"])
-        elif "was not admitted (" not in m["said"]:
+        elif "was rejected, was not checked" not in m["said"] and "were not checked" not in m["said"]:
             others.append(m["said"])
-    # a function without a Proof.antt, whose needs rattle leaves to `search`
-    for m in re.finditer(rf"^fn {crate.name}::(\S+): no proof: .*`search` does not close (.+)", log, re.M):
+    # needs that have no answer, which rattle leaves to its tactics
+    for m in re.finditer(rf"^fn {crate.name}::(\S+): no proof: .*`search` did not prove ([^;\n]+)", log, re.M):
         if m[1] in found:
             found[m[1]][0].append(m[2])
     return found
@@ -68,7 +71,7 @@ def facts_failed(log, where):
 
 def amiss_in_log(edits, crate, where):
     if not os.path.isfile(where + ".res") or read(where + ".res").strip() != "refused":
-        return ["rt did not refuse it"]
+        return ["the prover did not refuse it"]
     if not os.path.isfile(where + "/.log"):
         return ["there is no log of it"]
     log = read(where + "/.log")

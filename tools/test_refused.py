@@ -1,5 +1,5 @@
 #!/usr/bin/env python3
-"""test_refused.py [ROOT [LOGS]]: sees that refused.py turns the gate red where it must, over the logs of the last `rt ci`.
+"""test_refused.py [ROOT [LOGS]]: sees that refused.py turns the gate red where it must, over the logs of tools/try_edits.py.
 
 The file with the most edits is copied with its crate and its log, as it is and with one thing wrong at a time: first a harmless
 edit among the others, whose log is that of the others, since it changes no proof. Then the same with an edit of definitions. Exit 1
@@ -93,7 +93,9 @@ def survived(t):
 def not_admitted(t):
     """Each failed need of the first function reads as if only a callee had failed."""
     at = t.edits[0].expects.replace("::", "/")
-    text = re.sub(rf"(/proofs/{at}/Proof\.antt:\d+:\d+: error: `[^`]+`: ).*", r"\1`f` was not admitted (..)", read(t.log + "/.log"))
+    of = rf"(/proofs/{at}/(?:Answers|Invariants|Proof)\.antt:\d+:\d+: error: `[^`]+`: ).*"
+    text = re.sub(of, r"\1 1 declaration that depends on `f`, which was rejected, was not checked: g", read(t.log + "/.log"))
+    text = re.sub(rf"(?m)^(fn {t.crate.name}::{t.edits[0].expects}: ).*", r"\1no proof: it calls `f`, which is not proved", text)
     with open(t.log + "/.log", "w", encoding="utf-8") as f:
         f.write(text)
 
@@ -112,7 +114,7 @@ OF_FUNCTIONS = [
     ("a failure that no edit accounts for", dropped, "no edit expects that"),
     ("a function that only waits for a callee", not_admitted, "NOT REFUSED"),
     ("no log", no_log, "no log"),
-    ("not refused by rt", survived, "rt did not refuse it"),
+    ("not refused by the prover", survived, "the prover did not refuse it"),
 ]
 OF_DEFINITIONS = [
     ("as it is", lambda t: None, None),
@@ -120,7 +122,7 @@ OF_DEFINITIONS = [
     ("no case named", missing, "no line `expects:`"),
     ("a file of edits of definitions", lambda t: t.edits.append(t.edits[0]), "so it stands alone"),
     ("no log", no_log, "no log"),
-    ("not refused by rt", survived, "rt did not refuse it"),
+    ("not refused by the prover", survived, "the prover did not refuse it"),
 ]
 
 
