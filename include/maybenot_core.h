@@ -1,6 +1,6 @@
 /*
  * maybenot_core.h: the Maybenot event core for C and C++, written by hand over the archive libmaybenot_core.a, which
- * `rt staticlib maybenot_core` makes in target/staticlib. Link it by naming it: cc program.c libmaybenot_core.a
+ * `tools/build maybenot_core` makes in target/staticlib. Link it by naming it: cc program.c libmaybenot_core.a
  *
  * The core holds the events of a line between a client and a server, chooses the next one, and makes the network step on
  * it. Every call is proved to follow the rules of document 01 on any words and any numbers. It returns always; it needs

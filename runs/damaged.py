@@ -1,6 +1,6 @@
 #!/usr/bin/env python3
 """Damaged words: acceptance and refusals held against a second reading of
-LAYOUT.md and RULINGS.md, written here, and accepted states against the Rust.
+docs/LAYOUT.md and docs/DECISIONS.md, written here, and accepted states against the Rust.
 
   damaged.py FORECAST ORACLE SEED BLOCKS
 

@@ -37,7 +37,7 @@ def flag(b): return 'true' if b == '1' else 'false'
 def handed(w):
     k, t, d, z, p, b, r, m = w
     assert d == '0' and m == '0', w
-    if (p, b, r) == ('0', '0', '0'): return f'handedIn {k} {number(t)} {side(z)}'
+    if (p, b, r) == ('0', '0', '0'): return f'handed_in {k} {number(t)} {side(z)}'
     return f'flagged {k} {number(t)} {side(z)} {flag(p)} {flag(b)} {flag(r)}'
 
 
@@ -45,26 +45,26 @@ def opening(w):
     d, nr, qr, window = w[:4]
     assert qr == '-' and w[4:8] == ['0'] * 4, w
     rate = 'none' if nr == '-' else f'(some {nr})'
-    return f'openWith {number(d)} {rate} {number(window)}'
+    return f'open_with {number(d)} {rate} {number(window)}'
 
 
 def call(line):
     w = line.split()
     if w[0] == 'push': return f'push ({handed(w[1:])})'
-    if w[0] == 'sim_network_stack': return f'sim-network-stack {number(w[1])} ({handed(w[2:])})'
-    if w[0] == 'pick_next': return f'pick-next {number(w[1])}'
+    if w[0] == 'sim_network_stack': return f'sim_network_stack {number(w[1])} ({handed(w[2:])})'
+    if w[0] == 'pick_next': return f'pick_next {number(w[1])}'
     if w[0] == 'set_action':
         assert w[2] == '0' and w[3] == '2' and w[7] == '0', line
-        return f'{"setBypassableBlock" if w[6] == "1" else "setBlock"} {side(w[1])} {number(w[4])} {number(w[5])}'
+        return f'{"set_bypassable_block" if w[6] == "1" else "set_block"} {side(w[1])} {number(w[4])} {number(w[5])}'
     raise SystemExit(f'no form for {line}')
 
 
 def answer(line):
     w = line.split()
     if w[0] == 'ok': return 'done'
-    if w[0] == 'yes': return 'yes-step' if w[2] == '-' else f'yes-falls {number(w[2])}'
-    if w[0] == 'no': return 'no-step'
-    if w[0] == 'nothing': return f'nothing-left {w[2]}'
+    if w[0] == 'yes': return 'yes_step' if w[2] == '-' else f'yes_falls {number(w[2])}'
+    if w[0] == 'no': return 'no_step'
+    if w[0] == 'nothing': return f'nothing_left {w[2]}'
     if w[0] == 'refused': return f'refused {w[1]} {w[2]}'
     k, t, d, z, p, b, r, m = w[1:9]
     assert d == '0', line
@@ -96,8 +96,8 @@ def main():
         print(f'      ({items(calls)})')
         stamps = [number(x[2]) for x in (l.split() for l in last) if x[:2] == ['stamp', 'c']]
         bypassable = next(flag(x[3]) for x in (l.split() for l in last) if x[:2] == ['block', 'c'])
-        print(f'      ≡ seen ({items(answers)}) {group(pending)} {group(stamps)} {bypassable}\n')
-    print('-- each holds by computation\npub edges : Edges\nunfolding rules\nedges = record {')
+        print(f'      ≡ seen ({items(answers)}) {group(pending)} {group(stamps)} {bypassable}')
+    print('\n-- each holds by computation\npub edges : Edges\nunfolding rules\nedges = record {')
     for name, _, _ in CASES: print(f'  {name} = refl;')
     print('}')
 

@@ -21,7 +21,6 @@ not; 2 the definitions do not check or a name is not found; 3 no oracle here.
 
 import argparse
 import dataclasses
-import os
 import pathlib
 import random
 import re
@@ -43,16 +42,15 @@ FROM_A_LIST = 8
 MOST_OF_A_STEP = 4
 MOST_FAILURES = 5
 
-# how a `use` line names a module of the crate, inside it and from another one
-INSIDE = "Rattle·rules·specs.specs."
-OUTSIDE = "Rattle·rules.specs."
+# how a `use` line names a module of the crate
+RULES = "Rattle.rules.specs."
 
 # every name of the crate that the equations use; where it is defined is found by reading specs/
 TYPES = """Event EventIn Action ActionIn Aggregate Held Queues Fixed SideState Settings State Called Answer Slot Side Kind
     ActionKind""".split()
 VALUES = """client server TunnelSent NormalSent PaddingSent TunnelRecv NormalRecv PaddingRecv BlockingBegin BlockingEnd TimerBegin
-    TimerEnd SendPadding BlockOutgoing done event nothing-left step-made refused push set-action clear-action set-timer
-    clear-timer pick-next sim-network-stack call""".split()
+    TimerEnd SendPadding BlockOutgoing done event nothing_left step_made refused push set_action clear_action set_timer
+    clear_timer pick_next sim_network_stack call""".split()
 
 KINDS = "TunnelSent NormalSent PaddingSent TunnelRecv NormalRecv PaddingRecv BlockingBegin BlockingEnd TimerBegin TimerEnd".split()
 WITH_MACHINE = (2, 6, 8, 9)
@@ -156,12 +154,12 @@ def event_words(event):
 
 
 def an_event(event):
-    return f"(anEvent {KINDS[int(event[0])]} {event_words(event)})"
+    return f"(an_event {KINDS[int(event[0])]} {event_words(event)})"
 
 
 def an_action(action):
     kind, moment, duration, bypass, replace = action
-    return f"(anAction {('SendPadding', 'BlockOutgoing')[int(kind) - 1]} {moment} {duration} {boolean(bypass)} {boolean(replace)})"
+    return f"(an_action {('SendPadding', 'BlockOutgoing')[int(kind) - 1]} {moment} {duration} {boolean(bypass)} {boolean(replace)})"
 
 
 def slots(held, text):
@@ -180,7 +178,7 @@ class Places:
 
     def held(self, text):
         self.last += self.numbered
-        return f"inRecord {self.last} {text}"
+        return f"in_record {self.last} {text}"
 
 
 def state_text(state, room, free, numbered):
@@ -191,30 +189,30 @@ def state_text(state, room, free, numbered):
         chains = " ".join(f"({listed(places.held(an_event(e)) for e in side.chains[name])})" for name in CHAINS)
         stamps = listed(places.held(t) for t in side.stamps)
         sides.append(
-            f"(aSide {side.action_delay} {side.reporting_delay} {side.machines} {side.sum} {optional(side.block_end)} {boolean(side.bypassable)}"
+            f"(a_side {side.action_delay} {side.reporting_delay} {side.machines} {side.sum} {optional(side.block_end)} {boolean(side.bypassable)}"
             f" {chains} ({stamps}) {slots(side.timers, str)} {slots(side.actions, an_action)})"
         )
-    aggregates = listed(places.held(f"(anAggregate {t} {length} {side_name(x)})") for x, t, length in state.aggregates)
+    aggregates = listed(places.held(f"(an_aggregate {t} {length} {side_name(x)})") for x, t, length in state.aggregates)
     delay, network_rate, queue_rate, window = state.network
-    network = f"(aNetwork {delay} {optional(network_rate)} {optional(queue_rate)} {window})"
-    return f"(aState {network} {sides[0]} {sides[1]} ({aggregates}) ({free}) {boolean(state.ended)} {state.rounds} {room})"
+    network = f"(a_network {delay} {optional(network_rate)} {optional(queue_rate)} {window})"
+    return f"(a_state {network} {sides[0]} {sides[1]} ({aggregates}) ({free}) {boolean(state.ended)} {state.rounds} {room})"
 
 
 def call_text(line):
     name, *words = line.split()
     if name == "pick_next":
-        return f"(pick-next {words[0]})"
+        return f"(pick_next {words[0]})"
     if name == "push":
-        return f"(push (eventIn {words[0]} {event_words(words)}))"
+        return f"(push (event_in {words[0]} {event_words(words)}))"
     if name == "sim_network_stack":
-        return f"(sim-network-stack {words[0]} (eventIn {words[1]} {event_words(words[1:])}))"
+        return f"(sim_network_stack {words[0]} (event_in {words[1]} {event_words(words[1:])}))"
     slot = f"(slot {side_name(words[0])} {words[1]})"
     if name == "set_action":
         kind, moment, duration, bypass, replace = words[2:]
-        return f"(set-action {slot} (actionIn {kind} {moment} {duration} {boolean(bypass)} {boolean(replace)}))"
+        return f"(set_action {slot} (action_in {kind} {moment} {duration} {boolean(bypass)} {boolean(replace)}))"
     if name == "set_timer":
-        return f"(set-timer {slot} {words[2]})"
-    return f"({name.replace('_', '-')} {slot})"
+        return f"(set_timer {slot} {words[2]})"
+    return f"({name} {slot})"
 
 
 def answer_text(answer):
@@ -222,11 +220,11 @@ def answer_text(answer):
     if word == "event":
         return f"(event {an_event(rest[:8])} {rest[9]})"
     if word == "nothing":
-        return f"(nothing-left {rest[1]})"
+        return f"(nothing_left {rest[1]})"
     if word == "refused":
         return f"(refused {rest[0]} {rest[1]})"
     if word in ("yes", "no"):
-        return f"(step-made {'true' if word == 'yes' else 'false'} {optional(rest[1])})"
+        return f"(step_made {'true' if word == 'yes' else 'false'} {optional(rest[1])})"
     return {"ok": "done"}[word]
 
 
@@ -386,98 +384,94 @@ def uses(names, where):
     modules = {}
     for name in sorted(set(names)):
         modules.setdefault(where[name], []).append(name)
-    return "\n".join(f"use {OUTSIDE}{module}.{{{', '.join(found)}}}" for module, found in sorted(modules.items()))
+    return "\n".join(f"use {RULES}{module}.{{{', '.join(found)}}}" for module, found in sorted(modules.items()))
 
 
-COMMON_USES = """use Prim.Native.Nat.{ℕ}
-use mathlib.Core.Path.{_≡_, refl}
-use mathlib.Core.Bool.{Bool, true, false}
-use mathlib.Core.List.{List, [], _∷_}
-use mathlib.Core.Option.{Option, none, some}
-use lib.ListN.{length, set, replicate}
+COMMON_USES = """use Rattle.std.specs.Prelude.{ℕ, Bool, true, false, List, [], ◌∷◌, length, set, replicate, ◌≡◌, refl}
+use Rattle.std.proofs.Math.Option.{Option, none, some}
 """
 
 FORM = """-- The form of the equations: values written by their parts in order, and a call's outcome without the numbers of records.
 
-abbrev pub anEvent : Kind → ℕ → ℕ → Side → Bool → Bool → Bool → ℕ → Event
-anEvent k t d z p b r m = record { kind = k; moment = t; delay = d; side = z; padding = p; bypass = b; replace = r; machine = m }
+abbrev pub an_event : Kind → ℕ → ℕ → Side → Bool → Bool → Bool → ℕ → Event
+an_event k t d z p b r m = record { kind = k; moment = t; delay = d; side = z; padding = p; bypass = b; replace = r; machine = m }
 
-abbrev pub eventIn : ℕ → ℕ → ℕ → Side → Bool → Bool → Bool → ℕ → EventIn
-eventIn k t d z p b r m = record { kind = k; moment = t; delay = d; side = z; padding = p; bypass = b; replace = r; machine = m }
+abbrev pub event_in : ℕ → ℕ → ℕ → Side → Bool → Bool → Bool → ℕ → EventIn
+event_in k t d z p b r m = record { kind = k; moment = t; delay = d; side = z; padding = p; bypass = b; replace = r; machine = m }
 
-abbrev pub anAction : ActionKind → ℕ → ℕ → Bool → Bool → Action
-anAction k t d b r = record { kind = k; moment = t; duration = d; bypass = b; replace = r }
+abbrev pub an_action : ActionKind → ℕ → ℕ → Bool → Bool → Action
+an_action k t d b r = record { kind = k; moment = t; duration = d; bypass = b; replace = r }
 
-abbrev pub actionIn : ℕ → ℕ → ℕ → Bool → Bool → ActionIn
-actionIn k t d b r = record { kind = k; moment = t; duration = d; bypass = b; replace = r }
+abbrev pub action_in : ℕ → ℕ → ℕ → Bool → Bool → ActionIn
+action_in k t d b r = record { kind = k; moment = t; duration = d; bypass = b; replace = r }
 
 abbrev pub slot : Side → ℕ → Slot
 slot z m = record { side = z; machine = m }
 
-abbrev pub anAggregate : ℕ → ℕ → Side → Aggregate
-anAggregate t n z = record { moment = t; length = n; side = z }
+abbrev pub an_aggregate : ℕ → ℕ → Side → Aggregate
+an_aggregate t n z = record { moment = t; length = n; side = z }
 
-abbrev pub inRecord : {A : Type 0} → ℕ → A → Held A
-inRecord p a = record { place = p; value = a }
+abbrev pub in_record : {A : Type 0} → ℕ → A → Held A
+in_record p a = record { place = p; value = a }
 
 abbrev pub empty : {A : Type 0} → List (Option A)
 empty = replicate 16 none
 
-abbrev pub aNetwork : ℕ → Option ℕ → Option ℕ → ℕ → Settings
-aNetwork d n q w = record { networkDelay = d; networkRate = n; queueRate = q; window = w }
+abbrev pub a_network : ℕ → Option ℕ → Option ℕ → ℕ → Settings
+a_network d n q w = record { network_delay = d; network_rate = n; queue_rate = q; window = w }
 
-abbrev pub aSide :
+abbrev pub a_side :
     ℕ → ℕ → ℕ → ℕ → Option ℕ → Bool → List (Held Event) → List (Held Event) → List (Held Event) → List (Held Event)
     → List (Held ℕ) → List (Option ℕ) → List (Option Action) → SideState
-aSide a r m n end flag base blocking bypassable internal stamps timers actions =
+a_side a r m n end flag base blocking bypassable internal stamps timers actions =
     record {
-      fixed = record { actionDelay = a; reportingDelay = r; machines = m };
+      fixed = record { action_delay = a; reporting_delay = r; machines = m };
       sum = n;
-      blockEnd = end;
-      blockBypassable = flag;
+      block_end = end;
+      block_bypassable = flag;
       queues = record { base = base; blocking = blocking; bypassable = bypassable; internal = internal };
       stamps = stamps;
       timers = timers;
       actions = actions;
     }
 
-abbrev pub aState : Settings → SideState → SideState → List (Held Aggregate) → List ℕ → Bool → ℕ → ℕ → State
-aState x c s l f e k r =
+abbrev pub a_state : Settings → SideState → SideState → List (Held Aggregate) → List ℕ → Bool → ℕ → ℕ → State
+a_state x c s l f e k r =
     record { settings = x; client = c; server = s; aggregates = l; free = f; ended = e; rounds = k; room = r }
 
 -- what a chain holds, in records without a number
-abbrev pub bareChain : {A : Type 0} → List (Held A) → List (Held A)
-bareChain [] = []
-bareChain (h ∷ l) = inRecord 0 (h .value) ∷ bareChain l
+abbrev pub bare_chain : {A : Type 0} → List (Held A) → List (Held A)
+bare_chain [] = []
+bare_chain (h ∷ l) = in_record 0 h.value ∷ bare_chain l
 
-abbrev pub bareSide : SideState → SideState
-bareSide x =
-    aSide (x .fixed .actionDelay) (x .fixed .reportingDelay) (x .fixed .machines) (x .sum) (x .blockEnd) (x .blockBypassable)
-    (bareChain (x .queues .base)) (bareChain (x .queues .blocking)) (bareChain (x .queues .bypassable)) (bareChain (x .queues .internal))
-    (bareChain (x .stamps)) (x .timers) (x .actions)
+abbrev pub bare_side : SideState → SideState
+bare_side x =
+    a_side x.fixed.action_delay x.fixed.reporting_delay x.fixed.machines x.sum x.block_end x.block_bypassable
+    (bare_chain x.queues.base) (bare_chain x.queues.blocking) (bare_chain x.queues.bypassable) (bare_chain x.queues.internal)
+    (bare_chain x.stamps) x.timers x.actions
 
-abbrev pub bareState : State → State
-bareState s =
-    aState (s .settings) (bareSide (s .client)) (bareSide (s .server)) (bareChain (s .aggregates)) [] (s .ended) (s .rounds) (s .room)
+abbrev pub bare_state : State → State
+bare_state s =
+    a_state s.settings (bare_side s.client) (bare_side s.server) (bare_chain s.aggregates) [] s.ended s.rounds s.room
 
 -- the answer, the state without numbers of records, and how many records are free
 abbrev pub bare : Called → Answer × State × ℕ
-bare c = (c .answer, bareState (c .state), length (c .state .free))
+bare c = (c.answer, bare_state c.state, length c.state.free)
 """
 
-FORM_NAMES = "anEvent eventIn anAction actionIn slot anAggregate inRecord empty aNetwork aSide aState bare".split()
+FORM_NAMES = "an_event event_in an_action action_in slot an_aggregate in_record empty a_network a_side a_state bare".split()
 
 
 def form_file(where, opened):
-    opening = f"\n-- what an equation opens\nunfoldable pub opened-rules : Unit {{0}}\nunfolding {' '.join(opened)}\nopened-rules = tt\n"
+    opening = f"\n-- what an equation opens\nunfoldable pub opened_rules : Unit {{0}}\nunfolding {' '.join(opened)}\nopened_rules = tt\n"
     head, _, rest = FORM.partition("\n")
     return head + "\n" + COMMON_USES + uses(TYPES + opened, where) + "\n" + rest + opening
 
 
 def equations_file(some, where):
-    text = COMMON_USES + uses(VALUES, where) + f"\nuse Rattle·equations·specs.specs.Form.{{{', '.join(FORM_NAMES)}, opened-rules}}\n"
+    text = COMMON_USES + uses(VALUES, where) + f"\nuse Rattle.equations.specs.Form.{{{', '.join(FORM_NAMES)}, opened_rules}}\n"
     for number, found in some:
-        text += f"\neq{number} :\n    {found.text}\nunfolding opened-rules\neq{number} = refl\n"
+        text += f"\neq{number} :\n    {found.text}\nunfolding opened_rules\neq{number} = refl\n"
     return text
 
 
@@ -490,7 +484,7 @@ def copy_definitions(rules, folder):
         if module not in needed:
             needed.add(module)
             text = (specs / (module.replace(".", "/") + ".antt")).read_text()
-            waiting += re.findall(r"^use " + re.escape(INSIDE) + r"([\w.]+)\.\{", text, re.MULTILINE)
+            waiting += re.findall(r"^use " + re.escape(RULES) + r"([\w.]+)\.\{", text, re.MULTILINE)
     tops = {module.split(".")[0] for module in needed}
     shutil.rmtree(folder, ignore_errors=True)
     (folder / "specs").mkdir(parents=True)
@@ -512,7 +506,7 @@ def write_crate(folder, rules, numbered):
     shutil.rmtree(crate, ignore_errors=True)
     (crate / "specs").mkdir(parents=True)
     (crate / "src").mkdir()
-    (crate / "src" / "lib.rt").write_text("// A crate needs a function; this one is the equations of specs/.\npub fn none() -> u64 {\n    0\n}\n")
+    (crate / "src" / "lib.rt").write_text("// A crate needs a function; this one is the equations of specs/.\n#![tactic(auto)]\n\npub fn none() -> u64 {\n    0\n}\n")
     where, opened = index(folder / "crates" / "rules" / "specs")
     (crate / "specs" / "Form.antt").write_text(form_file(where, opened))
     modules = ["Form"]
@@ -524,8 +518,7 @@ def write_crate(folder, rules, numbered):
 
 def check(folder):
     """The checker's verdict and what it writes."""
-    environment = dict(os.environ, RT_CUT="0")
-    run = subprocess.run(["rt", "check", "equations"], cwd=folder, capture_output=True, text=True, env=environment)
+    run = subprocess.run(["rt", "check"], cwd=folder / "crates" / "equations", capture_output=True, text=True)
     return run.returncode, run.stdout + run.stderr
 
 

@@ -5,7 +5,7 @@ A file crates/NAME/must-fail/*.edit holds one or more edits:
     # what is wrong, in a sentence
     edit: NAME                 where the file holds several; one that stands alone has its file's name
     expects: FUNCTION          the function that it changes, whose proof must fail, as records::chain_ok or Moment::before;
-                               of an edit of specs/: the case or the theorem that must fail, as Edges.equal-ends
+                               of an edit of specs/: the case or the theorem that must fail, as Cases.both_blocks
     file: src/FILE.rt
     old: TEXT
     new: TEXT                  a pair or more
@@ -209,7 +209,7 @@ class Crate:
         for path in sorted(glob.glob(os.path.join(self.folder, "proofs/**/*.antt"), recursive=True)):
             file = os.path.relpath(path, os.path.join(self.folder, "proofs"))
             own = os.path.dirname(file).replace("/", ".")
-            for m in re.finditer(rf"Rattle\.{self.name}\.proofs\.([\w.+]+)\.(?:Code|Lts|Tie|Proof)\b", read(path)):
+            for m in re.finditer(rf"Rattle\.{self.name}\.proofs\.([\w.+]+)\.(?:Code|Lts|Goals|Given|Proof)\b", read(path)):
                 if m[1] != own:
                     amiss.append(f"proofs/{file} names the code of {m[1].replace('.', '::')}")
         return amiss

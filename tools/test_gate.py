@@ -127,7 +127,7 @@ TRIALS = [
     ("a refused.py that lets all pass", RED, "trials of refused.py: failed", lambda t: t.edit("tools/refused.py", "not needs", "False")),
     ("a packed word that is another", RED, "later answers: failed", lambda t: t.edit("runs/packed.py", "lambda: 0)", "lambda: 1)")),
     ("a source of another commit", RED, "the source is not", lambda t: t.other_source()),
-    ("a definition that is not the original's", RED, "as equations: failed", lambda t: t.edit("crates/rules/specs/NetworkStep.antt", "onDelayed x (s .client .sum)", "onDelayed x (x .sum)")),
+    ("a definition that is not the original's", RED, "as equations: failed", lambda t: t.edit("crates/rules/specs/NetworkStep.antt", "on_delayed x s.client.sum", "on_delayed x x.sum")),
     ("a wrong answer to a stored list", RED, "the stored lists: failed", lambda t: t.losing("--lists")),
     ("a wrong answer to a random list", RED, "of every kind: failed", lambda t: t.losing("--seconds")),
     ("a wrong answer in C", RED, "line.answers differs", lambda t: t.edit("examples/c/line.answers", "1", "2")),

@@ -68,7 +68,7 @@
 //!
 //! # Linking
 //!
-//! The archive `libmaybenot_core.a` is made by `rt staticlib maybenot_core` in the repository. The build looks for it in
+//! The archive `libmaybenot_core.a` is made by `tools/build maybenot_core` in the repository. The build looks for it in
 //! `MAYBENOT_CORE_LIB` (the archive or its directory), else in `../target/staticlib`.
 
 #![deny(missing_docs)]
