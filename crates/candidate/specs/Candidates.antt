@@ -49,7 +49,7 @@ next_of h Nothing = none_left
 
 -- ---- what is known of a candidate that was found in the words h and rs
 
--- the number of the kind in a slot of a side: `actionValue` reads more than one number as `BlockOutgoing`
+-- the number of the kind in a slot of a side: `action_value` reads more than one number as `BlockOutgoing`
 abbrev pub slot_kind : List ℕ → Bool → ℕ → ℕ
 slot_kind h client machine = action_of h (16 * side_no (side_of client) + machine) % 4
 

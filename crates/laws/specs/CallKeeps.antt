@@ -26,7 +26,7 @@ pub record Keeps (s : State) (c : Call) : Type 0 where
   pub nothing : (now : ℕ) → c ≡ pick_next now → is_refused (call s c).answer ≡ false → says_nothing (call s c).answer ≡ nothing_to_take s now
 
 -- A call that a later request adds joins the list by a case of this law, so by a clause in each of the laws that it cites and that go call by
--- call: `work-carries`, `work-runs`, `work-leaves` and `work-same`. What is said of lists (simulator/proofs/Demand3) stays as it is.
+-- call: `work_carries`, `work_runs`, `work_leaves` and `work_same`. What is said of lists (simulator/proofs/Demand3) stays as it is.
 pub call_keeps : (s : State) (c : Call) → Accepted s → Keeps s c
 call_keeps s c h =
     let r : CallRan s c (call s c) = call_runs s c in

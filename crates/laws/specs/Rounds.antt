@@ -1,4 +1,4 @@
--- The rounds of a choice one by one, as `finishedStates` has them: how many, what they leave, the room after each, and that fuel suffices.
+-- The rounds of a choice one by one, as `finished_states` has them: how many, what they leave, the room after each, and that fuel suffices.
 use Rattle.std.specs.Prelude.{ℕ, zero, suc, ◌+◌, ◌≤◌, ◌<◌, ◌≡◌, refl, true, false, not, Bool, ◌&&◌, List, [], ◌∷◌, length, get_or, if◌then◌else◌}
 use Rattle.std.proofs.Common.{ap, ap₂, ◌∙◌, subst, sym, arith, le-leb}
 use Rattle.std.proofs.Math.Option.{Option, none, some}

@@ -1,6 +1,6 @@
 -- What is proved of the rules, each theorem in document 01's words (of packing, of the moments of aggregates by cases and of when the packet count falls,
 -- document 02's), with the law that proves it. The words are those of the crate rules; of this crate's own: `Accepted` (a state that calls may get), `Once` (each record from 1 to
--- R stands once), `times` (how often a record stands), `stateAfter` (the state after a round), `recordsTaken` (the free records that a round takes),
+-- R stands once), `times` (how often a record stands), `state_after` (the state after a round), `records_taken` (the free records that a round takes),
 -- `Alike` (different in record numbers alone).
 use Rattle.std.specs.Prelude.{ℕ, ◌+◌, ◌≤◌, ◌<◌, suc, ◌≡◌, refl, ◌⊎◌, Bool, true, false, List, [], ◌∷◌, length, get_or}
 use Rattle.std.proofs.Common.{◌∙◌, arith}

@@ -1,5 +1,5 @@
 // What a step of `PaddingSent` is to do: a packet of its own, or in its place one that waits. specs/Plans has the same of the rules'
-// stepPadding, proofs/PaddingLaws that the step is this and no more.
+// step_padding, proofs/PaddingLaws that the step is this and no more.
 ghost use Rattle.std.specs.Prelude.{◌≡◌, List, ℕ, ◌<◌, ◌≤◌, length};
 ghost use Rattle.rules.specs.Limits.{moment_limit, duration_limit};
 ghost use Rattle.rules.specs.State.{side};

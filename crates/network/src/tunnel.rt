@@ -1,5 +1,5 @@
 // What a step of `TunnelSent` is to do: a stamp, the delay of a full window with its test for an aggregate, and `TunnelRecv` at the
-// other side. specs/Plans has the same of the rules' stepTunnel, proofs/TunnelLaws that the step is this and no more.
+// other side. specs/Plans has the same of the rules' step_tunnel, proofs/TunnelLaws that the step is this and no more.
 ghost use Rattle.std.specs.Prelude.{◌≡◌, false, List, ℕ, ◌≤◌, length};
 ghost use Rattle.rules.specs.Basics.{other, TunnelRecv};
 ghost use Rattle.rules.specs.Limits.{moment_limit, duration_limit};

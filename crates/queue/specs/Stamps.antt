@@ -9,7 +9,7 @@ abbrev pub first_place : {A : Type 0} → List (Held A) → ℕ
 first_place [] = 0
 first_place (x ∷ l) = x.place
 
--- the first aggregate is dropped and its record given back: the rules' `takeAggregate` without the sum
+-- the first aggregate is dropped and its record given back: the rules' `take_aggregate` without the sum
 unfoldable pub drop_aggregate : State → State
 drop_aggregate s = with_free (with_aggregates s (tail s.aggregates)) (first_place s.aggregates ∷ s.free)
 

@@ -1,4 +1,4 @@
--- An action done: its slot cleared first, then its block begun and its event queued, is the rules' `doAction`. Assumes nothing.
+-- An action done: its slot cleared first, then its block begun and its event queued, is the rules' `do_action`. Assumes nothing.
 use Prim.Native.Nat.{ℕ, ◌+◌, ◌≤◌, ◌<◌}
 use mathlib.Core.Path.{◌≡◌, refl, sym, ap, subst, ◌∙◌}
 use mathlib.Core.Bool.{Bool, true, false}

@@ -1,9 +1,9 @@
--- Document 02, M-110: when an aggregate is due, as "eight plain cases". `aggregatesOf` (Aggregates) says it by one subtraction with a floor of 0; the
+-- Document 02, M-110: when an aggregate is due, as "eight plain cases". `aggregates_of` (Aggregates) says it by one subtraction with a floor of 0; the
 -- two agree (proofs/MomentCases).
 use Rattle.std.specs.Prelude.{◌*◌, ◌+◌, ◌-◌, ◌<◌, ◌≤◌, ℕ, ◌≡◌}
 use Rattle.rules.specs.Basics.{Side, client, server}
 
--- "client or server end, which side's record, and whether the multiple of the network delay exceeds the length handed in": `server-client-above` is a
+-- "client or server end, which side's record, and whether the multiple of the network delay exceeds the length handed in": `server_client_above` is a
 -- delay at the server's end, the record for the client's sum, the multiple above the length; `rest` is a multiple that is not
 pub data MomentCase : Type 0 where
   client_client_above client_client_rest client_server_above client_server_rest : MomentCase

@@ -37,7 +37,7 @@ unfoldable pub finished_states : ℕ → ℕ → State → List State
 finished_states zero now s = []
 finished_states (suc f) now s = finished (λ (t : State). finished_states f now t) (round s now)
 
--- the same with a bound that is never reached: demand 3 says so (simulator/specs/Demand, `every-round`)
+-- the same with a bound that is never reached: demand 3 says so (simulator/specs/Demand, `every_round`)
 abbrev pub round_states : State → ℕ → List State
 round_states s now = finished_states (suc (rounds_left s)) now s
 

@@ -32,7 +32,7 @@ use Rattle.simulator.proofs.SameAnswers.{agree_kin, packed_kin, same_list}
 -- calls included
 
 -- Each call is related to the next by its promise alone. A call that a later request adds joins by that promise (`Outcome`) and by its case of the
--- rules' law of a call (laws/CallKeeps, `call-keeps`); one that is lent a second block joins beside the state (`Reading`) by its own promise, as packing
+-- rules' law of a call (laws/CallKeeps, `call_keeps`); one that is lent a second block joins beside the state (`Reading`) by its own promise, as packing
 -- does (`Packs`): it leaves the state's words and makes no round.
 pub demand_3 : Demand3
 demand_3 w l h r = demand_of words_hold free_records w l h r

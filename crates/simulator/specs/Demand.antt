@@ -86,7 +86,7 @@ answer_by (beside b a) = a
 pub record Demand (w : List ℕ) (l : List Entry) : Type 0 where
   -- the rounds are at most A + 3B + T + 4S at its start, and the allowance
   pub bound : rounds_in w l ≤ rounds_left (state_of w) + allowed l
-  -- no round of a choice is left out of that count: it goes on for one round more than A + 3B + T + 4S as the choice begins (`roundStates`), and
+  -- no round of a choice is left out of that count: it goes on for one round more than A + 3B + T + 4S as the choice begins (`round_states`), and
   -- with any larger bound f the rounds are the same, with the states that they leave
   pub every_round :
       (front rest : List Entry) (x : Made) (now f : ℕ) → l ≡ front ++ (on x ∷ rest) → x.call ≡ pick_next now → rounds_left (state_of (left_after w front)) < f
