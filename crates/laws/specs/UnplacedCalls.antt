@@ -1,5 +1,5 @@
 -- Any call, and any list of calls, reads values only.
-use Rattle.std.specs.Prelude.{ℕ, ◌+◌, ◌≡◌, refl, Bool, true, false, not, ◌&&◌, ◌||◌, List, [], ◌∷◌, leb, ltb, eqb}
+use Rattle.std.specs.Prelude.{ℕ, ◌+◌, ◌≡◌, refl, Bool, true, false, not, ◌&&◌, ◌||◌, [], ◌∷◌, leb, ltb, eqb}
 use Rattle.std.proofs.Common.{sym, ap, ◌∙◌}
 use Rattle.std.proofs.Math.Option.{Option, none, some}
 use Rattle.rules.specs.Basics.{Side, client, server, Kind, kind_of, has_machine_no, is_some}
@@ -12,7 +12,6 @@ use Rattle.rules.specs.Arguments.{Call, EventIn, ActionIn, push, set_action, cle
 use Rattle.rules.specs.Effects.{after_push, timer_set, after_set_action, after_step}
 use Rattle.rules.specs.Refusals.{event_no_machine, event_too_large, action_too_large, no_machine, full, first_of, table, refusal}
 use Rattle.rules.specs.Calls.{leaves, stepped, work, unless_refused, call}
-use Rattle.rules.specs.CallLists.{answers, after_all}
 use Rattle.laws.specs.Unplaced.{unplaced_state, Alike, side_unplaced, unplaced_state_twice, settled, used_unplaced, reserved_unplaced}
 use Rattle.laws.specs.UnplacedRound.{clear_timer_unplaced, clear_action_unplaced, unplaced_called, choose_unplaced}
 use Rattle.laws.specs.Branches.{if_alike}
@@ -145,12 +144,3 @@ call_reads_values s t c h = (ap (λ (x : Called). x.answer) p, ap (λ (x : Calle
   where
     p : unplaced_called (call s c) ≡ unplaced_called (call t c)
     p = call_unplaced s c ∙ ap (λ u. unplaced_called (call u c)) h ∙ sym (call_unplaced t c)
-
--- ---- a list of calls
-
-pub list_reads_values : (l : List Call) (s t : State) → Alike s t → (answers s l ≡ answers t l) × Alike (after_all s l) (after_all t l)
-list_reads_values [] s t h = (refl, h)
-list_reads_values (c ∷ l) s t h =
-    let a = call_reads_values s t c h in
-    let b = list_reads_values l (call s c).state (call t c).state a.1 in
-    (λ d. a.0 d ∷ b.0 d, b.1)

@@ -15,7 +15,7 @@ use Rattle.rules.specs.Opening.{Opening, open_side, records_in, open_refusal, op
 use Rattle.laws.specs.Branches.{both}
 use Rattle.laws.specs.CallRuns.{AllFalse, none_met}
 use Rattle.laws.specs.Accepted.{RateOk, SettingsOk, Accepted as AcceptedState}
-use Rattle.laws.specs.Opened.{opened_accepted}
+use Rattle.laws.proofs.Opened.{opened_accepted}
 use Rattle.queue_event.specs.Words.{next_of, In}
 use Rattle.queue_event.specs.Chain.{Node, nodes, Chain as LinkedFrom}
 use Rattle.layout.specs.Header.{Limited, SlotsOk, slots_room, reserved, limits}

@@ -19,7 +19,7 @@ use Rattle.rules.specs.ChoiceRound.{lift_event, pop_side}
 use Rattle.rules.specs.Queueing.{put_event}
 use Rattle.rules.specs.NetworkStep.{free_with_evicted, let_pass, stamp, stamped, step_padding, step_tunnel}
 use Rattle.laws.specs.Accepted.{Accepted as HeldAccepted}
-use Rattle.laws.specs.Adds.{after_step_adds}
+use Rattle.laws.proofs.Adds.{after_step_adds}
 use Rattle.laws.specs.Counts.{reserved_add, reserved_free, reserved_push, reserved_put, reserved_with, used_push, at_most_two}
 use Rattle.laws.specs.Heads.{waiting_first_lem}
 use Rattle.event.specs.HandedIn.{event_in, side_of}

@@ -11,7 +11,8 @@ use Rattle.rules.specs.ChoiceRound.{Candidate as RulesCandidate, act, take_aggre
 use Rattle.laws.specs.Accepted.{Accepted as HeldAccepted}
 use Rattle.laws.specs.Fits.{fits_all}
 use Rattle.laws.specs.Found.{Found, found}
-use Rattle.laws.specs.RecordsTaken.{records_taken, round_takes_free}
+use Rattle.laws.specs.RecordsTaken.{records_taken}
+use Rattle.laws.proofs.RecordsTaken.{round_takes_free}
 use Rattle.event.specs.Answers.{chosen_as}
 use Rattle.event.specs.HandedIn.{aggregate_in}
 use Rattle.event.specs.declared.AggregateDelay.{AggregateDelay}

@@ -7,8 +7,10 @@ use native.Mathlib.Omega.{arith}
 use Rattle.rules.specs.State.{State, rounds_left, total}
 use Rattle.rules.specs.ChoiceRound.{RoundOutcome, next, taken, nothing, passed, round}
 use Rattle.rules.specs.Choice.{Answer, Called, choose, rounds, settle}
-use Rattle.laws.specs.Falls.{Kept, enough, round_kept, state_after}
-use Rattle.laws.specs.Runs.{Makes, round_makes}
+use Rattle.laws.specs.Falls.{Kept, state_after}
+use Rattle.laws.proofs.Falls.{enough, round_kept}
+use Rattle.laws.specs.Runs.{Makes}
+use Rattle.laws.proofs.Runs.{round_makes}
 use Rattle.event.specs.Answers.{choice_of}
 use Rattle.event.specs.declared.answer.Choice.{Choice}
 use Rattle.layout.specs.Layout.{state_of}

@@ -15,9 +15,10 @@ use Rattle.laws.specs.Accepted.{Accepted as HeldAccepted, SettingsOk, only}
 use Rattle.laws.specs.Falls.{state_after}
 use Rattle.laws.specs.Fits.{fits_all}
 use Rattle.laws.specs.Records.{Same, same_number}
-use Rattle.laws.specs.RecordsRound.{round_same}
+use Rattle.laws.proofs.RecordsRound.{round_same}
 use Rattle.laws.specs.RecordsTaken.{free_reserved}
-use Rattle.laws.specs.Runs.{Makes, Ran, round_makes}
+use Rattle.laws.specs.Runs.{Makes, Ran}
+use Rattle.laws.proofs.Runs.{round_makes}
 use Rattle.laws.specs.Sound.{Sound}
 use Rattle.laws.specs.SoundRound.{round_sound}
 use Rattle.laws.specs.Steady.{act_steady}

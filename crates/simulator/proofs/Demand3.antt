@@ -11,8 +11,9 @@ use Rattle.rules.specs.Choice.{Answer}
 use Rattle.rules.specs.Calls.{call}
 use Rattle.rules.specs.CallLists.{allowance_of, carried, is_refused, rounds_of, says_nothing}
 use Rattle.laws.specs.Accepted.{Accepted as AcceptedState}
-use Rattle.laws.specs.CallKeeps.{Keeps, call_keeps}
-use Rattle.laws.specs.Theorems.{fuel_suffices_for_states}
+use Rattle.laws.specs.CallKeeps.{Keeps}
+use Rattle.laws.proofs.CallKeeps.{call_keeps}
+use Rattle.laws.proofs.Theorems.{fuel_suffices_for_states}
 use Rattle.layout.specs.Accepted.{Accepted}
 use Rattle.layout.specs.Layout.{state_of}
 use Rattle.simulator.specs.Outcome.{Outcome, FreeRecords}

@@ -10,7 +10,7 @@ use Rattle.rules.specs.Arguments.{Call}
 use Rattle.laws.specs.Unplaced.{unplaced_state, Alike}
 use Rattle.rules.specs.Contents.{Agree}
 use Rattle.laws.specs.Packed.{agree_alike, alike_agree}
-use Rattle.laws.specs.Theorems.{call_reads_only_values}
+use Rattle.laws.proofs.Theorems.{call_reads_only_values}
 use Rattle.layout.specs.Accepted.{Accepted}
 use Rattle.layout.specs.Layout.{state_of}
 use Rattle.layout.specs.Packed.{packed_words}

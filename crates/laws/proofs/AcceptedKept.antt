@@ -5,9 +5,10 @@ use Rattle.rules.specs.Arguments.{Call}
 use Rattle.rules.specs.State.{State}
 use Rattle.rules.specs.Calls.{call}
 use Rattle.laws.specs.Accepted.{Accepted, SettingsOk, only}
-use Rattle.laws.specs.CallRuns.{CallRan, call_runs}
+use Rattle.laws.specs.CallRuns.{CallRan}
+use Rattle.laws.proofs.CallRuns.{call_runs}
 use Rattle.laws.specs.Records.{Same, same_number}
-use Rattle.laws.specs.RecordsCalls.{call_same}
+use Rattle.laws.proofs.RecordsCalls.{call_same}
 use Rattle.laws.specs.SoundCalls.{call_sound}
 
 -- so any list of calls does (Demand)

@@ -13,8 +13,6 @@ use Rattle.laws.specs.Accepted.{RateOk, Accepted, Once, Whole, only}
 use Rattle.laws.specs.Records.{weigh_free, weigh}
 use Rattle.laws.specs.CallRuns.{AllFalse, none_met}
 
--- ---- records: each among the free ones, once
-
 length_up : (a n : ℕ) → length (up_from a n) ≡ n
 length_up a zero = refl
 length_up a (suc n) = ap suc (length_up (suc a) n)
@@ -47,8 +45,6 @@ opened_whole o words = omega (arith, length_up 1 (records_in words))
 opened_once : (o : Opening) (words : ℕ) → Once (opened o words)
 unfolding opened weigh
 opened_once o words = λ r a b. omega (arith, once_up r 1 (records_in words) a (omega arith))
-
--- ---- values
 
 empty_slot : {A : Type 0} (n m : ℕ) (a : A) → get_or {A = Option A} (replicate n none) m none ≡ some a → ⊥
 empty_slot zero m a h = none-ne-some a h

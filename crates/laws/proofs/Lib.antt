@@ -1,0 +1,16 @@
+pub mod Falls
+pub mod QuietRound
+pub mod NothingLeft
+pub mod Runs
+pub mod Adds
+pub mod CallRuns
+pub mod Ended
+pub mod Rounds
+pub mod RecordsRound
+pub mod RecordsTaken
+pub mod RecordsCalls
+pub mod AcceptedKept
+pub mod Opened
+pub mod UnplacedCalls
+pub mod CallKeeps
+pub mod Theorems
