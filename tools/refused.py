@@ -51,17 +51,17 @@ def needs_failed(log, crate):
     return found
 
 
-def facts_failed(log, where):
-    """The cases and theorems that fail, as FILE.NAME: what is declared and, in a record of cases, the field of the failing line."""
+def facts_failed(log, folder):
+    """The cases and theorems that fail, as FILE.NAME: what is declared and, in a record of cases, the field of the failing line: an edit moves no line."""
     found = set()
     for m in ERROR.finditer(log):
         if not FACT.match(m["said"]):
             continue
-        path = os.path.join(where, re.sub(r".*/(?=(?:specs|proofs)/)", "", m["path"]))
+        path = os.path.join(folder, re.sub(r".*/(?=(?:specs|proofs)/)", "", m["path"]))
         file = label(path)
         found.add(f"{file}.{m['name']}")
         for line in reversed(read(path).split("\n")[: int(m["line"])] if os.path.isfile(path) else []):
-            field = re.match(r"\s+[;{]?\s*([\w-]+)\s*=", line)
+            field = re.match(r"\s+[;{]?\s*([\w'-]+)\s*=", line)
             if field:
                 found.add(f"{file}.{field[1]}")
             if field or not line.startswith(" "):
@@ -76,7 +76,7 @@ def amiss_in_log(edits, crate, where):
         return ["there is no log of it"]
     log = read(where + "/.log")
     if crate.changed_by(edits[0]) is None:
-        facts = facts_failed(log, where)
+        facts = facts_failed(log, crate.folder)
         return [] if edits[0].expects in facts else [f"NOT REFUSED: {edits[0]}: {edits[0].expects} holds; what fails: {', '.join(sorted(facts)) or 'no fact'}"]
     amiss, failed = [], needs_failed(log, crate)
     for e in edits:
