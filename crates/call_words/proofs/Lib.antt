@@ -1,0 +1,4 @@
+pub mod AskedLaws
+pub mod Branches
+pub mod PairLaws
+pub mod ShapeLaws

@@ -1,0 +1,23 @@
+use Rattle.call_words.proofs.Branches.{holds_then, fails_else}
+use Rattle.call_words.specs.Names.{named_slot}
+use Rattle.call_words.proofs.names.named_slot.Goals as goal
+
+pub returns-then-spells : goal.returns-then-spells
+unfolding named_slot
+returns-then-spells c = holds_then _ _ _ _ c.spells.ensures c.if-spells.true
+
+pub returns-then-spells-2 : goal.returns-then-spells-2
+unfolding named_slot
+returns-then-spells-2 c = fails_else _ _ _ _ _ c.spells.ensures c.if-spells.false (holds_then _ _ _ _ c.spells-2.ensures c.if-spells-2.true)
+
+pub returns-then-spells-3 : goal.returns-then-spells-3
+unfolding named_slot
+returns-then-spells-3 c = fails_else _ _ _ _ _ c.spells.ensures c.if-spells.false (fails_else _ _ _ _ _ c.spells-2.ensures c.if-spells-2.false (holds_then _ _ _ _ c.spells-3.ensures c.if-spells-3.true))
+
+pub returns-then-spells-4 : goal.returns-then-spells-4
+unfolding named_slot
+returns-then-spells-4 c = fails_else _ _ _ _ _ c.spells.ensures c.if-spells.false (fails_else _ _ _ _ _ c.spells-2.ensures c.if-spells-2.false (fails_else _ _ _ _ _ c.spells-3.ensures c.if-spells-3.false (holds_then _ _ _ _ c.spells-4.ensures c.if-spells-4.true)))
+
+pub returns : goal.returns
+unfolding named_slot
+returns c = fails_else _ _ _ _ _ c.spells.ensures c.if-spells.false (fails_else _ _ _ _ _ c.spells-2.ensures c.if-spells-2.false (fails_else _ _ _ _ _ c.spells-3.ensures c.if-spells-3.false (fails_else _ _ _ _ _ c.spells-4.ensures c.if-spells-4.false c.named_words.ensures)))
