@@ -1,6 +1,5 @@
 -- Which line a first word names, as docs/CALLS.md lists them. Assumes nothing.
-use Rattle.std.specs.Prelude.{ℕ, List}
-use Rattle.std.specs.Prelude.{if◌then◌else◌}
+use Rattle.std.specs.Prelude.{ℕ, List, if◌then◌else◌}
 use Rattle.call_words.specs.Text.{bytes, same}
 use Rattle.call_words.specs.declared.names.Name.{Name}
 use Rattle.call_words.specs.declared.names.Name.TheVariants.{Bad, Lend, Word, Open, Push, SetAction, ClearAction, SetTimer, ClearTimer, PickNext, SimNetworkStack, Show, Words, LendSecond, WordSecond, WordsSecond, TakeSecond, Pack}

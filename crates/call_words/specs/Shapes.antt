@@ -1,6 +1,5 @@
 -- Which arguments a line has, in the order of docs/CALLS.md. Assumes nothing.
-use Rattle.std.specs.Prelude.{ℕ, Bool, true, List, eqb}
-use Rattle.std.specs.Prelude.{if◌then◌else◌}
+use Rattle.std.specs.Prelude.{ℕ, Bool, true, List, eqb, if◌then◌else◌}
 use Rattle.call_words.specs.Text.{bytes, pairwise}
 use Rattle.call_words.specs.declared.names.Name.{Name}
 use Rattle.call_words.specs.declared.names.Name.TheVariants.{Bad, Lend, Word, Open, Push, SetAction, ClearAction, SetTimer, ClearTimer, PickNext, SimNetworkStack, Show, Words, LendSecond, WordSecond, WordsSecond, TakeSecond, Pack}

@@ -1,8 +1,7 @@
 -- Texts as the bytes of their letters. Assumes nothing.
-use Rattle.std.specs.Prelude.{ℕ, Bool, true, false, List, [], ◌∷◌, eqb}
+use Rattle.std.specs.Prelude.{ℕ, Bool, true, false, List, [], ◌∷◌, eqb, if◌then◌else◌}
 use Prim.Native.Char.{code}
 use Prim.Native.String.{String, [] as end, ◌∷◌ as ◌then◌}
-use Rattle.std.specs.Prelude.{if◌then◌else◌}
 
 -- the bytes of a text of ASCII
 abbrev pub bytes : String → List ℕ
