@@ -14,10 +14,6 @@ use Rattle.call_words.specs.Asked.{Asks, bad, asks, understood}
 use Rattle.call_words.proofs.Branches.{then_is, else_is}
 use Rattle.call_words.proofs.PairLaws.{pairwise_length}
 
--- in the arm of x
-pub asks_of : (x name : Name) (f v : List ℕ) (a : Asks) → name ≡ x → a ≡ asks x f v → a ≡ asks name f v
-asks_of x name f v a e q = q ∙ ap (λ (n : Name). asks n f v) (sym e)
-
 -- a line reads no more arguments than its shape has letters
 module _ (n : ℕ) (f v : List ℕ) where
   word : (i : ℕ) → i < n → get_or (take n v) i 0 ≡ get_or v i 0

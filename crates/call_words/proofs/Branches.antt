@@ -1,6 +1,6 @@
 -- A choice between two values whose test is known. Assumes nothing.
 use Prim.Native.Nat.{ℕ}
-use mathlib.Core.Path.{◌≡◌, refl}
+use mathlib.Core.Path.{◌≡◌}
 use mathlib.Core.Bool.{Bool, true, false}
 use native.Mathlib.Omega.{arith}
 use Rattle.std.specs.Prelude.{if◌then◌else◌}
@@ -14,10 +14,3 @@ then_is false x y z e q = absurd (let z : ◌≡◌ {A = ℕ} 0 1 = cc in omega 
 pub else_is : {A : Type 0} (b : Bool) (x y z : A) → b ≡ false → z ≡ y → z ≡ (if b then x else y)
 else_is true x y z e q = absurd (let z : ◌≡◌ {A = ℕ} 0 1 = cc in omega arith)
 else_is false x y z e q = q
-
--- the same, where a function made the test and answered r
-pub holds_then : {A : Type 0} (r b : Bool) (x y : A) → r ≡ b → r ≡ true → x ≡ (if b then x else y)
-holds_then r b x y is held = then_is b x y x (cc) refl
-
-pub fails_else : {A : Type 0} (r b : Bool) (x y z : A) → r ≡ b → r ≡ false → z ≡ y → z ≡ (if b then x else y)
-fails_else r b x y z is failed q = else_is b x y z (cc) q

@@ -161,6 +161,7 @@ fn word_second(values: &[u64; 12]) -> Asked
 }
 
 // What a line of this name asks for with these arguments.
+#[tactic(auto, unfolding(crate::specs::Asked::asks))]
 fn asked_for(name: Name, values: &[u64; 12]) -> Asked
     ensures { AsksWith name values.now result }
 {
@@ -187,6 +188,7 @@ fn asked_for(name: Name, values: &[u64; 12]) -> Asked
 }
 
 // What a line asks for with this first word and the first n of these arguments.
+#[tactic(auto, using(crate::proofs::AskedLaws::refused_shape, crate::proofs::AskedLaws::taken_shape))]
 pub fn understood(
     name: &[u8; 24],
     letters: usize,

@@ -26,6 +26,7 @@ pub enum Name {
 }
 
 // Whether the first n letters of name are the text.
+#[tactic(auto, using(crate::proofs::PairLaws::pairwise_other, crate::proofs::PairLaws::pairwise_turn, crate::proofs::PairLaws::pairwise_differs, crate::proofs::PairLaws::pairwise_end))]
 fn spells(name: &[u8; 24], n: usize, text: &[u8]) -> bool
     requires { length text.now < 24 }
     ensures { result ≡ same (take n name.now) text.now }
@@ -44,6 +45,7 @@ fn spells(name: &[u8; 24], n: usize, text: &[u8]) -> bool
     true
 }
 
+#[tactic(auto, unfolding(crate::specs::Names::named))]
 pub(crate) fn named(name: &[u8; 24], n: usize) -> Name
     ensures { result ≡ name_of (take n name.now) }
 {
@@ -62,6 +64,7 @@ pub(crate) fn named(name: &[u8; 24], n: usize) -> Name
     named_slot(name, n)
 }
 
+#[tactic(auto, unfolding(crate::specs::Names::named_slot))]
 fn named_slot(name: &[u8; 24], n: usize) -> Name
     ensures { result ≡ named_slot (take n name.now) }
 {
@@ -80,6 +83,7 @@ fn named_slot(name: &[u8; 24], n: usize) -> Name
     named_words(name, n)
 }
 
+#[tactic(auto, unfolding(crate::specs::Names::named_words))]
 fn named_words(name: &[u8; 24], n: usize) -> Name
     ensures { result ≡ named_words (take n name.now) }
 {
@@ -98,6 +102,7 @@ fn named_words(name: &[u8; 24], n: usize) -> Name
     named_second(name, n)
 }
 
+#[tactic(auto, unfolding(crate::specs::Names::named_second))]
 fn named_second(name: &[u8; 24], n: usize) -> Name
     ensures { result ≡ named_second (take n name.now) }
 {

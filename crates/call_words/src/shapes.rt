@@ -28,6 +28,7 @@ pub fn numeric(form: u64) -> bool
 }
 
 // Whether a word of this form can stand where the shape has this letter: n number, f flag, s side, else rate.
+#[tactic(auto, unfolding(crate::specs::Shapes::stands))]
 fn stands(form: u64, letter: u8) -> bool
     ensures { result ≡ can_stand form letter }
 {
@@ -47,6 +48,7 @@ fn stands(form: u64, letter: u8) -> bool
 }
 
 // Whether there are as many arguments as the shape has letters, each of its form.
+#[tactic(auto, using(crate::proofs::PairLaws::pairwise_other, crate::proofs::PairLaws::pairwise_turn, crate::proofs::PairLaws::pairwise_differs, crate::proofs::PairLaws::pairwise_end))]
 fn shaped(forms: &[u64; 12], n: usize, shape: &[u8]) -> bool
     requires { length shape.now < 12 }
     ensures { result ≡ fits (take n forms.now) shape.now }
