@@ -1,0 +1,13 @@
+pub mod AskedLaws
+pub mod ByteLaws
+pub mod DigitLaws
+pub mod EndedLaws
+pub mod JoinLaws
+pub mod NameLaws
+pub mod NumeralLaws
+pub mod OneByteLaws
+pub mod PartLaws
+pub mod ReadLaws
+pub mod SpeltLaws
+pub mod TakeLaws
+pub mod WordLaws

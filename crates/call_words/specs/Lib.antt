@@ -1,0 +1,4 @@
+pub mod Asked
+pub mod Names
+pub mod Shapes
+pub mod Text
