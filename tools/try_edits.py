@@ -66,16 +66,16 @@ def main(*given):
     for crate in {c for c, _ in files}:
         shutil.rmtree(os.path.join(logs, crate), ignore_errors=True)
     os.makedirs(os.path.join(root, "target"), exist_ok=True)
-    todo, amiss = queue.Queue(), []
+    waiting, amiss = queue.Queue(), []
     for it in files:
-        todo.put(it)
+        waiting.put(it)
 
     def work():
         with tempfile.TemporaryDirectory(prefix="edits-", dir=os.path.join(root, "target")) as tree:
             try:
                 copied(root, tree)
                 while True:
-                    crate, path = todo.get_nowait()
+                    crate, path = waiting.get_nowait()
                     if not tried(tree, root, crate, path, logs):
                         amiss.append(path)
             except queue.Empty:
