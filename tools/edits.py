@@ -102,6 +102,7 @@ def written(edits):
 # ---- what a crate's source holds, in the layout that `rt fmt` gives
 
 FUNCTION = re.compile(r'( *)(?:pub(?:\(\w+\))? )?(?:extern "C" )?fn (\w+)')
+IMPL = re.compile(r"impl(?:<[^>]*>)? (?:(?:\w+::)*(\w+)(?:<(.*)>)? for )?(?:\w+::)*(\w+)")
 CONSTANT = re.compile(r"^ *(?:pub(?:\(\w+\))? )?const (\w+):.*?;$", re.M | re.S)
 
 
@@ -116,6 +117,12 @@ class Part:
         return self.file == file and self.start <= at and end <= self.end
 
 
+def owned(impl):
+    """Whose functions an impl block holds, as the prover says it: a type's, or those of a type and a trait, as MomentOrd or RefusalFromReason."""
+    trait, arguments, name = impl.groups()
+    return name + (trait or "") + "".join(re.findall(r"\w+", arguments or ""))
+
+
 def functions_in(file, text):
     """The bodies of a file's functions, each by its path within the crate."""
     module = [m for m in file.removeprefix("src/").removesuffix(".rt").split("/") if m not in ("lib", "main", "mod")]
@@ -124,14 +131,17 @@ def functions_in(file, text):
         start, place = place, place + len(line)
         code = line.split("//")[0].rstrip()
         if name is None:
-            owns, begins = re.match(r"impl (\w+)", code), FUNCTION.match(code)
+            owns, begins = IMPL.match(code), FUNCTION.match(code)
             if owns:
-                owner = [owns[1]]
+                owner = [owned(owns)]
             elif code == "}":
                 owner = []
             elif begins:
                 margin, body = begins[1], None
                 name = "::".join(module + owner + [begins[2]])
+        # a trait's function without a body
+        if name and body is None and code.endswith(";"):
+            name = None
         # signature and clauses end with a brace on a line that is indented as the function is; so does the body
         if name and body is None and code.endswith("{") and len(code) - len(code.lstrip()) == len(margin):
             body = place

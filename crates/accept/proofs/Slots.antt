@@ -1,21 +1,24 @@
 -- Slots that are empty and slots that are in order, some of them and all, and what they keep in reserve. Assumes nothing.
 use Prim.Native.Nat.{ℕ, zero, suc, ◌+◌, ◌-◌, ◌*◌, ◌≤◌, ◌<◌, ◌/◌, ◌%◌}
 use mathlib.Core.Path.{◌≡◌, refl, sym, ap, subst, ◌∙◌}
-use mathlib.Core.Bool.{Bool, true, false, not}
-use mathlib.Core.List.{List}
+use mathlib.Core.Bool.{Bool, true, false}
+use mathlib.Core.List.{List, [], ◌∷◌}
 use native.Mathlib.Omega.{arith}
-use native.Mathlib.Decide.{ℕ_discrete}
 use lib.Bits.{bit_or, or_add_and, and_le_l, and_le_r, or_zero_l}
-use lib.Dec.{ltb}
-use lib.ListN.{get_or}
+use lib.Dec.{eqb, ltb}
+use lib.ListN.{length, get_or, take, drop}
 use borrow.Author.Tests.{ltb-true, ltb-false}
+use Rattle.std.specs.Prelude.{None}
+use Rattle.std.specs.Bool.{MatchBool}
+use Rattle.std.specs.List.{fold, range_with_len, AllWithin, HoldsAt}
+use Rattle.std.proofs.Common.{length-take, length-drop}
+use Rattle.std.proofs.lemmas.List.{get_or-take, get_or-drop}
+use Rattle.std.proofs.lemmas.List.FromFn.{get_or-range_with_len, length-range_with_len}
 use Rattle.layout.specs.Header.{Limited, ActionOk, SlotEmpty, SlotOk, SlotsOk, machines_of, block_of, timer_of, action_of, action_moment, action_duration, held, slots_room, reserved}
 use Rattle.layout.specs.Decides.{Decides}
-use Rattle.layout.proofs.Deciding.{refused, passed}
+use Rattle.layout.proofs.Deciding.{holds, fails, denied, hands, by_eqb, false_true}
 use Rattle.layout.proofs.Sums.{slots_room_zero, slots_room_more}
-use Rattle.accept.specs.declared.header.Slots.{Slots}
-use Rattle.accept.specs.declared.header.Slots.TheVariants.{Wrong, Reserve}
-use Rattle.accept.specs.Slots.{Zeros, EmptyIn, OkIn, RoomIn, FoundIn, FoundAll}
+use Rattle.accept.specs.Slots.{Zeros, EmptyIn, OkIn, RoomIn, FoundAll}
 
 -- ---- one slot
 
@@ -52,35 +55,53 @@ past_empty h j ok l =
 
 -- ---- words or-ed together
 
--- at each turn: what the words from a on, below i, make is zero exactly where they are
-pub record Ored (h : List ℕ) (a i any : ℕ) : Type 0 where
-  pub sound : any ≡ 0 → Zeros h a i
-  pub complete : Zeros h a i → any ≡ 0
-
 or_left : (a b : ℕ) → bit_or a b ≡ 0 → a ≡ 0
 or_left a b e = omega (arith, or_add_and a b, and_le_r a b, e)
 
 or_right : (a b : ℕ) → bit_or a b ≡ 0 → b ≡ 0
 or_right a b e = omega (arith, or_add_and a b, and_le_l a b, e)
 
-pub ored_start : (h : List ℕ) (a : ℕ) → Ored h a a 0
-ored_start h a = record { sound = λ _ i l k. absurd (omega arith); complete = λ _. refl }
+abbrev pub any_of : ℕ → List ℕ → ℕ
+any_of any w = fold (λ a x. bit_or a x) any w
 
-pub ored_turn : (h : List ℕ) (a i any : ℕ) → a ≤ i → Ored h a i any → Ored h a (i + 1) (bit_or any (get_or h i 0))
-ored_turn h a i any l o =
-    record {
-      sound = λ e k lo hi. go e k lo hi (ℕ_discrete k i);
-      complete = λ z. ap (λ x. bit_or x (get_or h i 0)) (o.complete (λ k lo hi. z k lo (omega arith))) ∙ or_zero_l (get_or h i 0) ∙ z i l (omega arith);
-    }
+none_sound : (w : List ℕ) (any : ℕ) → any_of any w ≡ 0 → (any ≡ 0) × Zeros w
+none_sound [] any e = (e, λ i l. absurd (omega (arith, l)))
+none_sound (x ∷ w) any e = go (none_sound w (bit_or any x) e)
   where
-    go : bit_or any (get_or h i 0) ≡ 0 → (k : ℕ) → a ≤ k → k < i + 1 → Dec (k ≡ i) → get_or h k 0 ≡ 0
-    go e k lo hi (yes q) = ap (λ x. get_or h x 0) q ∙ or_right any (get_or h i 0) e
-    go e k lo hi (no q) = o.sound (or_left any (get_or h i 0) e) k lo (omega (arith, q))
+    zeros : bit_or any x ≡ 0 → Zeros w → Zeros (x ∷ w)
+    zeros o z zero l = or_right any x o
+    zeros o z (suc i) l = z i (omega (arith, l))
+
+    go : (bit_or any x ≡ 0) × Zeros w → (any ≡ 0) × Zeros (x ∷ w)
+    go rest = (or_left any x rest.0, zeros rest.0 rest.1)
+
+none_complete : (w : List ℕ) → Zeros w → any_of 0 w ≡ 0
+none_complete [] z = refl
+none_complete (x ∷ w) z = ap (λ any. any_of any w) (or_zero_l x ∙ z 0 (omega arith)) ∙ none_complete w (λ i l. z (suc i) (omega (arith, l)))
+
+pub none_decides : (w : List ℕ) (any : ℕ) → any ≡ any_of 0 w → Decides (Zeros w) (eqb any 0)
+none_decides w any e = by_eqb _ _ (λ z. (none_sound w 0 (sym e ∙ z)).1) (λ z. e ∙ none_complete w z)
 
 -- ---- the words of slots that are empty
 
+-- the words from p on, below q, are zero
+abbrev ZerosIn : List ℕ → ℕ → ℕ → Type 0
+ZerosIn h p q = (n : ℕ) → p ≤ n → n < q → get_or h n 0 ≡ 0
+
+module _ (h : List ℕ) (p q : ℕ) (fits : q ≤ length h) where
+  part_in : Zeros (take (q - p) (drop p h)) → ZerosIn h p q
+  part_in z n lo hi =
+      let same : n ≡ p + (n - p) = omega arith in
+      let inside : n - p < length (take (q - p) (drop p h)) = rw (length-take, length-drop) (omega arith) in
+      ap (λ x. get_or h x 0) same ∙ sym (get_or-drop p h (n - p) 0) ∙ sym (get_or-take (q - p) (drop p h) (n - p) 0 (omega arith)) ∙ z (n - p) inside
+
+  in_part : ZerosIn h p q → Zeros (take (q - p) (drop p h))
+  in_part z i l =
+      let inside : i < q - p = omega (arith, rw (length-take, length-drop) at l) in
+      get_or-take (q - p) (drop p h) i 0 inside ∙ get_or-drop p h i 0 ∙ z (p + i) (omega arith) (omega arith)
+
 module _ (h : List ℕ) (a e : ℕ) where
-  pub zeros_empty : Zeros h (64 + a) (64 + e) → Zeros h (96 + 3 * a) (96 + 3 * e) → EmptyIn h a e
+  zeros_empty : ZerosIn h (64 + a) (64 + e) → ZerosIn h (96 + 3 * a) (96 + 3 * e) → EmptyIn h a e
   zeros_empty t w j l k =
       record {
         timer = t (64 + j) (omega arith) (omega arith);
@@ -89,12 +110,12 @@ module _ (h : List ℕ) (a e : ℕ) where
         duration = w (98 + 3 * j) (omega arith) (omega arith);
       }
 
-  pub empty_timers : EmptyIn h a e → Zeros h (64 + a) (64 + e)
+  empty_timers : EmptyIn h a e → ZerosIn h (64 + a) (64 + e)
   empty_timers z i l k =
       let same : i ≡ 64 + (i - 64) = omega arith in
       ap (λ x. get_or h x 0) same ∙ (z (i - 64) (omega arith) (omega arith)).timer
 
-  pub empty_actions : EmptyIn h a e → Zeros h (96 + 3 * a) (96 + 3 * e)
+  pub empty_actions : EmptyIn h a e → ZerosIn h (96 + 3 * a) (96 + 3 * e)
   empty_actions z i l k = go ((i - 96) % 3) refl
     where
       slot : SlotEmpty h ((i - 96) / 3)
@@ -106,17 +127,28 @@ module _ (h : List ℕ) (a e : ℕ) where
       go (suc (suc zero)) q = let same : i ≡ 98 + 3 * ((i - 96) / 3) = omega (arith, q) in ap (λ x. get_or h x 0) same ∙ slot.duration
       go (suc (suc (suc r))) q = absurd (omega (arith, q))
 
+  module _ (wide : length h ≡ 256) (small : e ≤ 32) (r : Bool) (timers : Decides (Zeros (take (64 + e - (64 + a)) (drop (64 + a) h))) r) where
+    pub timers_decide : r ≡ false → Decides (EmptyIn h a e) r
+    timers_decide f =
+        record { sound = λ t. false_true (sym f ∙ t); complete = λ z. timers.complete (in_part h (64 + a) (64 + e) (omega arith) (empty_timers z)) }
+
+    pub actions_decide : (s : Bool) → Decides (Zeros (take (96 + 3 * e - (96 + 3 * a)) (drop (96 + 3 * a) h))) s → r ≡ true → Decides (EmptyIn h a e) s
+    actions_decide s actions t =
+        hands actions
+        (λ z. zeros_empty (part_in h (64 + a) (64 + e) (omega arith) (timers.sound t)) (part_in h (96 + 3 * a) (96 + 3 * e) (omega arith) z))
+        (λ z. in_part h (96 + 3 * a) (96 + 3 * e) (omega arith) (empty_actions z))
+
 -- ---- turn by turn
 
-pub ok_more : (h : List ℕ) (a j : ℕ) → OkIn h a j → SlotOk h j → OkIn h a (j + 1)
-ok_more h a j o p k l m = go (ℕ_discrete k j)
-  where
-    go : Dec (k ≡ j) → SlotOk h k
-    go (yes q) = subst (λ (x : ℕ). SlotOk h x) (sym q) p
-    go (no q) = o k l (omega (arith, q))
-
-pub room_start : (h : List ℕ) (a : ℕ) → RoomIn h a a 0
-room_start h a = record { is = omega arith; most = omega arith }
+-- P of each number from a on, below e, as `all` asks it
+pub each_decides :
+    (P : ℕ → Type 0) (a e : ℕ) (r : Bool)
+    → MatchBool r (AllWithin P (range_with_len a (e - a)) 0 (length (range_with_len a (e - a)))) ((k : ℕ) × (k < length (range_with_len a (e - a))) × HoldsAt (λ x. P x → ⊥) (range_with_len a (e - a)) k)
+    → Decides ((j : ℕ) → a ≤ j → j < e → P j) r
+each_decides P a e true m = holds (λ j lo hi. subst P (get_or-range_with_len a (e - a) (j - a) 0 (omega arith) ∙ omega arith) (m (j - a) 0 (omega arith) (rw length-range_with_len (omega arith))))
+each_decides P a e false m =
+    let k : m.0 < e - a = rw length-range_with_len at m.1 in
+    fails (λ all. m.2 0 (subst P (sym (get_or-range_with_len a (e - a) m.0 0 k)) (all (a + m.0) (omega arith) (omega arith))))
 
 pub room_turn : (h : List ℕ) (a j sum r : ℕ) → RoomIn h a j sum → (r ≡ held (timer_of h j) + 4 * held (action_of h j)) × (r ≤ 5) → RoomIn h a (j + 1) (sum + r)
 room_turn h a j sum r p e = record { is = omega (arith, p.is, slots_room_more h j, e.0); most = omega (arith, p.most, e.1) }
@@ -169,70 +201,21 @@ module _ (h : List ℕ) where
     omega (arith, eb.1, rc.most, rs.most, l 8 (omega arith), l 9 (omega arith)),
   )
 
--- ---- what a test found, by its answer
-
-module _ (h : List ℕ) (a e : ℕ) (x : Slots) (p : FoundIn h a e x) where
-  wrong_in : x ≡ Wrong → OkIn h a e → ⊥
-  unfolding FoundIn
-  wrong_in q = subst (FoundIn h a e) q p
-
-  pub right_in : (r : ℕ) → x ≡ Reserve r → OkIn h a e × RoomIn h a e r
-  unfolding FoundIn
-  right_in r q = subst (FoundIn h a e) q p
-
-module _ (h : List ℕ) (x : Slots) (p : FoundAll h x) where
-  pub wrong_all : x ≡ Wrong → SlotsOk h → ⊥
-  unfolding FoundAll
-  wrong_all q = subst (FoundAll h) q p
-
-  pub right_all : (r : ℕ) → x ≡ Reserve r → SlotsOk h × (r ≡ reserved h) × (r ≤ 166)
-  unfolding FoundAll
-  right_all r q = subst (FoundAll h) q p
-
 -- ---- the test of all slots: above the client's machine count, above the server's, the client's machines, the server's
 
 module _ (h : List ℕ) (l : Limited h) where
-  pub wrong_past_client : (r : Bool) → Decides (EmptyIn h (get_or h 8 0) 16) r → not r ≡ true → FoundAll h Wrong
+  pub past_client_set : (r : Bool) → Decides (EmptyIn h (get_or h 8 0) 16) r → r ≡ false → FoundAll h None
   unfolding FoundAll
-  wrong_past_client r d e ok = refused d e (client_past h ok)
+  past_client_set r d e ok = denied d e (client_past h ok)
 
-  pub wrong_past_server : (r : Bool) → Decides (EmptyIn h (16 + get_or h 9 0) 32) r → not r ≡ true → FoundAll h Wrong
+  pub past_server_set : (r : Bool) → Decides (EmptyIn h (16 + get_or h 9 0) 32) r → r ≡ false → FoundAll h None
   unfolding FoundAll
-  wrong_past_server r d e ok = refused d e (server_past h ok)
+  past_server_set r d e ok = denied d e (server_past h ok)
 
-  module _ (x : Slots) where
-    pub wrong_client : FoundIn h 0 (get_or h 8 0) x → x ≡ Wrong → FoundAll h Wrong
-    unfolding FoundAll
-    wrong_client p e ok = wrong_in h 0 (get_or h 8 0) x p e (λ j _ k. ok j (omega (arith, k, l 8 (omega arith))))
+  pub client_wrong : (r : Bool) → Decides (OkIn h 0 (get_or h 8 0)) r → r ≡ false → FoundAll h None
+  unfolding FoundAll
+  client_wrong r d e ok = denied d e (λ j _ k. ok j (omega (arith, k, l 8 (omega arith))))
 
-    pub wrong_server : FoundIn h 16 (16 + get_or h 9 0) x → x ≡ Wrong → FoundAll h Wrong
-    unfolding FoundAll
-    wrong_server p e ok = wrong_in h 16 (16 + get_or h 9 0) x p e (λ j _ k. ok j (omega (arith, k, l 9 (omega arith))))
-
-    module _ (y : Slots) (c s : ℕ) (px : FoundIn h 0 (get_or h 8 0) x) (ex : x ≡ Reserve c) (py : FoundIn h 16 (16 + get_or h 9 0) y) (ey : y ≡ Reserve s) where
-      pub client_most : c ≤ 80
-      client_most = omega (arith, (right_in h 0 (get_or h 8 0) x px c ex).1.most, l 8 (omega arith))
-
-      pub server_most : s ≤ 80
-      server_most = omega (arith, (right_in h 16 (16 + get_or h 9 0) y py s ey).1.most, l 9 (omega arith))
-
-      pub found_all :
-          (q r : Bool) → Decides (EmptyIn h (get_or h 8 0) 16) q → not q ≡ false → Decides (EmptyIn h (16 + get_or h 9 0) 32) r → not r ≡ false
-          → (b : ℕ) → (b ≡ 3 * held (block_of h 0) + 3 * held (block_of h 1)) × (b ≤ 6) → FoundAll h (Reserve (b + c + s))
-      unfolding FoundAll
-      found_all q r dq eq dr er b eb = (slots_all h ec es fx.0 fy.0, sum.0, sum.1)
-        where
-          ec : EmptyIn h (get_or h 8 0) 16
-          ec = passed dq eq
-
-          es : EmptyIn h (16 + get_or h 9 0) 32
-          es = passed dr er
-
-          fx : OkIn h 0 (get_or h 8 0) × RoomIn h 0 (get_or h 8 0) c
-          fx = right_in h 0 (get_or h 8 0) x px c ex
-
-          fy : OkIn h 16 (16 + get_or h 9 0) × RoomIn h 16 (16 + get_or h 9 0) s
-          fy = right_in h 16 (16 + get_or h 9 0) y py s ey
-
-          sum : (b + c + s ≡ reserved h) × (b + c + s ≤ 166)
-          sum = reserve_all h l ec es b c s eb fx.1 fy.1
+  pub server_wrong : (r : Bool) → Decides (OkIn h 16 (16 + get_or h 9 0)) r → r ≡ false → FoundAll h None
+  unfolding FoundAll
+  server_wrong r d e ok = denied d e (λ j _ k. ok j (omega (arith, k, l 9 (omega arith))))

@@ -1,12 +1,10 @@
 -- What the tests of the slots find, of some of them and of all. Assumes nothing.
-use Rattle.std.specs.Prelude.{ℕ, ◌+◌, ◌*◌, ◌≤◌, ◌<◌, ◌≡◌, List, get_or}
+use Rattle.std.specs.Prelude.{ℕ, ◌+◌, ◌*◌, ◌≤◌, ◌<◌, ◌≡◌, List, length, get_or, Option, Some, None}
 use Rattle.layout.specs.Header.{SlotEmpty, SlotOk, SlotsOk, slots_room, reserved}
-use Rattle.accept.specs.declared.header.Slots.{Slots}
-use Rattle.accept.specs.declared.header.Slots.TheVariants.{Wrong, Reserve}
 
--- the words from a on, below e, are zero
-abbrev pub Zeros : List ℕ → ℕ → ℕ → Type 0
-Zeros h a e = (i : ℕ) → a ≤ i → i < e → get_or h i 0 ≡ 0
+-- all words are zero
+abbrev pub Zeros : List ℕ → Type 0
+Zeros w = (i : ℕ) → i < length w → get_or w i 0 ≡ 0
 
 -- the slots from a on, below e, are empty
 abbrev pub EmptyIn : List ℕ → ℕ → ℕ → Type 0
@@ -21,12 +19,7 @@ pub record RoomIn (h : List ℕ) (a e r : ℕ) : Type 0 where
   pub is : slots_room h a + r ≡ slots_room h e
   pub most : r + 5 * a ≤ 5 * e
 
--- of a test of the slots from a on, below e
-unfoldable pub FoundIn : List ℕ → ℕ → ℕ → Slots → Type 0
-FoundIn h a e Wrong = OkIn h a e → ⊥
-FoundIn h a e (Reserve r) = OkIn h a e × RoomIn h a e r
-
 -- of the test of all slots: where they are in order, all that is kept in reserve
-unfoldable pub FoundAll : List ℕ → Slots → Type 0
-FoundAll h Wrong = SlotsOk h → ⊥
-FoundAll h (Reserve r) = SlotsOk h × (r ≡ reserved h) × (r ≤ 166)
+unfoldable pub FoundAll : List ℕ → Option ℕ → Type 0
+FoundAll h None = SlotsOk h → ⊥
+FoundAll h (Some r) = SlotsOk h × (r ≡ reserved h) × (r ≤ 166)

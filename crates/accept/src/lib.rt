@@ -8,44 +8,32 @@ ghost use Rattle.layout.specs.Accepted.{SizeOk, Good, Accepted};
 pub mod header;
 pub mod records;
 
-use header::Slots;
+use header::Header;
+use layout::HEADER_WORDS;
 
 // Whether n is 256 + 4R, R from 1 to 65,535.
 pub fn size_ok(n: usize) -> bool
     ensures { Decides (SizeOk n) result }
 {
-    if n < 260 {
-        return false;
-    }
-    if n > 262_396 {
-        return false;
-    }
-    n % 4 == 0
+    (260..=262_396).contains(&n) && n % 4 == 0
 }
 
 // Whether a header and the records after it are in order, each for itself and together.
-fn good(head: &[u64], rest: &[u64], hints: &mut [u64; 12]) -> bool
-    requires { (length head.now ≡ 256) × (length rest.now ≤ 262140) }
-    ensures { Decides (Good head.now rest.now) result }
+fn good(head: &Header, rest: &[u64], hints: &mut [u64; 12]) -> bool
+    requires { length rest.now ≤ 262140 }
+    ensures { Decides (Good head.now.words.now rest.now) result }
 {
-    if !header::limited(head) {
+    if !head.limited() {
         return false;
     }
-    let slots = header::test_slots(head);
-    let Slots::Reserve(reserve) = slots else {
+    let Some(reserve) = head.test_slots() else {
         return false;
     };
     if !records::chains_ok(head, rest, hints) {
         return false;
     }
     let last = (rest.len() / 4) as u64;
-    if records::counted(head) != last {
-        return false;
-    }
-    if last - head[25] + reserve > last {
-        return false;
-    }
-    true
+    records::counted(head) == last && last - head.words[25] + reserve <= last
 }
 
 // Whether the lent words are an accepted state. Where they are, the walk of the chains leaves the last record of each in `hints`, 0 for an empty one. It is a
@@ -56,7 +44,8 @@ pub fn accepted_with(block: &[u64], hints: &mut [u64; 12]) -> bool
     if !size_ok(block.len()) {
         return false;
     }
-    good(&block[..256], &block[256..], hints)
+    let (words, rest) = block.split_at(HEADER_WORDS);
+    good(&Header { words }, rest, hints)
 }
 
 // Whether the lent words are an accepted state.

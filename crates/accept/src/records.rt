@@ -3,7 +3,7 @@ ghost use Rattle.std.specs.Prelude.{◌≡◌, ℕ, ◌<◌, ◌≤◌, length};
 ghost use Rattle.layout.specs.Decides.{Decides};
 ghost use Rattle.layout.specs.Records.{KindOk, MachineBound, MachineOk, EventOk, AggregateOk, StampOk, RecordOk, Follows, Chain, ChainsOk, chain_count, counts_to, count_of};
 
-use crate::header::MOMENT;
+use crate::header::{Header, MOMENT};
 use moment::Length;
 use queue_event::{tag, words};
 
@@ -18,25 +18,18 @@ fn kind_ok(place: u64, kind: u64, bypass: u64) -> bool
     requires { (0 < place) × (place < 5) }
     ensures { Decides (KindOk place kind bypass) result }
 {
-    if place == 1 {
-        return kind == 1;
+    match place {
+        1 => kind == 1,
+        4 => 1 < kind && kind <= 9,
+        _ => kind == 0 && bypass == place - 2,
     }
-    if place == 4 {
-        if kind > 9 {
-            return false;
-        }
-        return kind > 1;
-    }
-    if kind != 0 {
-        return false;
-    }
-    bypass == place - 2
 }
 
 // How many machines an event of this kind may name, of a side with so many: kinds 2, 6, 8 and 9 have one, all others name 0.
 fn machine_bound(kind: u64, machines: u64) -> u64
     ensures { MachineBound kind machines result }
 {
+    // an if for each: joined by or, or as a match, they cost more, and this is asked of every event
     if kind == 2 {
         return machines;
     }
@@ -61,55 +54,29 @@ fn event_ok(place: u64, machines: u64, moment: u64, span: u64, tag: u64) -> bool
     requires { (0 < place) × (place < 5) }
     ensures { Decides (EventOk place machines moment span tag) result }
 {
-    if moment > MOMENT {
-        return false;
-    }
-    if span > DELAY {
-        return false;
-    }
-    if tag > 65_535 {
-        return false;
-    }
-    if tag::side_field(tag) != 0 {
-        return false;
-    }
     let kind = tag::kind(tag);
-    if !kind_ok(place, kind, tag::bypass_field(tag)) {
-        return false;
-    }
-    if !machine_ok(kind, machines, tag::machine(tag)) {
-        return false;
-    }
-    true
+    moment <= MOMENT
+        && span <= DELAY
+        && tag <= 65_535
+        && tag::side_field(tag) == 0
+        && kind_ok(place, kind, tag::bypass_field(tag))
+        && machine_ok(kind, machines, tag::machine(tag))
 }
 
 // Whether the words are those of a pending aggregate.
 fn aggregate_ok(moment: u64, span: u64, tag: u64) -> bool
     ensures { Decides (AggregateOk moment span tag) result }
 {
-    if moment > MOMENT {
-        return false;
-    }
-    if span > MOMENT {
-        return false;
-    }
-    if tag == tag::aggregate_tag(true) {
-        return true;
-    }
-    tag == tag::aggregate_tag(false)
+    moment <= MOMENT
+        && span <= MOMENT
+        && (tag == tag::aggregate_tag(true) || tag == tag::aggregate_tag(false))
 }
 
 // Whether the words are those of a stamp.
 fn stamp_ok(moment: u64, span: u64, tag: u64) -> bool
     ensures { Decides (StampOk moment span tag) result }
 {
-    if moment > MOMENT {
-        return false;
-    }
-    if tag > 15 {
-        return false;
-    }
-    span == 0
+    moment <= MOMENT && tag <= 15 && span == 0
 }
 
 // Whether a record of these words may stand in chain k, whose side has so many machines: the one test of a record.
@@ -120,16 +87,14 @@ pub fn record_ok(k: u64, machines: u64, moment: u64, span: u64, tag: u64) -> boo
     if tag::mark(tag) != k {
         return false;
     }
+    // by ifs, in this order: as a match of k it takes half as long again, since the compiler then asks for the number anew at each record
     if k == 11 {
         return aggregate_ok(moment, span, tag);
     }
     if k % 5 != 0 {
         return event_ok(k % 5, machines, moment, span, tag);
     }
-    if k == 0 {
-        return true;
-    }
-    stamp_ok(moment, span, tag)
+    k == 0 || stamp_ok(moment, span, tag)
 }
 
 // Whether a record of this moment and rank may come after one of the last moment and rank.
@@ -139,13 +104,11 @@ fn follows(k: u64, last_moment: u64, last_rank: u64, moment: u64, rank: u64) -> 
     if k % 5 == 0 {
         return true;
     }
+    // the moments that fall first: a chain of ors costs more, and this is asked of every record
     if moment < last_moment {
         return false;
     }
-    if last_moment < moment {
-        return true;
-    }
-    last_rank <= rank
+    last_moment < moment || last_rank <= rank
 }
 
 // Whether `head` starts a chain of n records of number k, in order, of a side with so many machines. Each word is read once. The last record is noted in
@@ -156,15 +119,11 @@ fn chain_ok(rest: &[u64], hints: &mut [u64; 12], k: u64, machines: u64, head: u6
 {
     let last = (rest.len() / 4) as u64;
     let mut at = head;
-    let mut left = n;
     let mut moment: u64 = 0;
     let mut rank: u64 = 0;
     let mut tail: u64 = 0;
-    while left > 0 {
-        if at == 0 {
-            return false;
-        }
-        if at > last {
+    for _ in 0..n {
+        if at == 0 || last < at {
             return false;
         }
         let m = words::get(rest, at, 1);
@@ -180,50 +139,45 @@ fn chain_ok(rest: &[u64], hints: &mut [u64; 12], k: u64, machines: u64, head: u6
         rank = r;
         tail = at;
         at = words::get(rest, at, 0);
-        left -= 1;
     }
     hints[k as usize] = tail;
     at == 0
 }
 
 // Whether each chain is in order. A count is held against the number of records before its chain is walked. The last record of each is noted in `hints`.
-pub fn chains_ok(header: &[u64], records: &[u64], hints: &mut [u64; 12]) -> bool
-    requires { (length header.now ≡ 256) × (length records.now ≤ 262140) }
-    ensures { Decides (ChainsOk header.now records.now) result }
+pub fn chains_ok(header: &Header, records: &[u64], hints: &mut [u64; 12]) -> bool
+    requires { length records.now ≤ 262140 }
+    ensures { Decides (ChainsOk header.now.words.now records.now) result }
 {
     let last = (records.len() / 4) as u64;
-    let mut k = 0;
-    while k < CHAINS {
-        let count = header[25 + 2 * k];
-        if count > last {
+    for k in 0..CHAINS {
+        let count = header.words[25 + 2 * k];
+        if last < count {
             return false;
         }
-        let machines = header[8 + k / 6];
+        let machines = header.words[8 + k / 6];
         if !chain_ok(
             records,
             hints,
             k as u64,
             machines,
-            header[24 + 2 * k],
+            header.words[24 + 2 * k],
             count,
         ) {
             return false;
         }
-        k += 1;
     }
     true
 }
 
 // The records of all chains, taken together.
-pub fn counted(header: &[u64]) -> u64
-    requires { (length header.now ≡ 256) × ((k : ℕ) → k < chain_count → count_of header.now k ≤ 65535) }
-    ensures { result ≡ counts_to header.now chain_count }
+pub fn counted(header: &Header) -> u64
+    requires { (k : ℕ) → k < chain_count → count_of header.now.words.now k ≤ 65535 }
+    ensures { result ≡ counts_to header.now.words.now chain_count }
 {
     let mut sum: u64 = 0;
-    let mut k = 0;
-    while k < CHAINS {
-        sum += header[25 + 2 * k];
-        k += 1;
+    for k in 0..CHAINS {
+        sum += header.words[25 + 2 * k];
     }
     sum
 }

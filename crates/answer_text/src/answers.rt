@@ -1,134 +1,67 @@
-// The answer of a call, as text: a line each.
-ghost use Rattle.std.specs.Prelude.{◌≡◌, ◌≤◌, length};
-
-use crate::text;
+// The answer of a call, as text: a line each. No write to the buffer fails.
+use crate::text::{OrDash, Output, side};
 use event::SimEvent;
-use event::answer::{Answer, Choice, Falls, Refusal, Step, Stepped};
+use event::answer::{Answer, Choice, Refusal, Step};
+use std::fmt;
+use std::fmt::Write;
 
-// The event's eight words, each after a space.
-pub(crate) fn put_event(out: &mut [u8], used: usize, e: SimEvent) -> usize
-    requires { used ≤ length out.old }
-    ensures { result ≤ length out.new }
-{
-    let numbers = text::put_three(out, used, e.kind.0, e.moment.0, e.delay.0);
-    let side = text::put_side(out, numbers, e.client);
-    let flags = put_flags(out, side, e.padding, e.bypass, e.replace);
-    text::put_next(out, flags, e.machine)
-}
+// The event's eight words.
+#[derive(Clone, Copy)]
+pub(crate) struct Words(pub SimEvent);
 
-fn put_flags(out: &mut [u8], used: usize, padding: bool, bypass: bool, replace: bool) -> usize
-    requires { used ≤ length out.old }
-    ensures { result ≤ length out.new }
-{
-    let a = text::put_flag(out, used, padding);
-    let b = text::put_flag(out, a, bypass);
-    text::put_flag(out, b, replace)
-}
-
-fn refused(out: &mut [u8], used: usize, r: Refusal) -> usize
-    requires { used ≤ length out.old }
-    ensures { result ≤ length out.new }
-{
-    let at = text::put(out, used, b"refused");
-    let number = text::put_next(out, at, r.number);
-    let rounds = text::put_next(out, number, r.rounds);
-    text::put(out, rounds, b"\n")
-}
-
-pub fn told(out: &mut [u8], used: usize, a: Answer) -> usize
-    requires { used ≤ length out.old }
-    ensures { result ≤ length out.new }
-{
-    match a {
-        Answer::Done => text::put(out, used, b"ok\n"),
-        Answer::Refused(r) => refused(out, used, r),
+impl fmt::Display for Words {
+    fn fmt<W: fmt::Write>(&self, f: &mut fmt::Formatter<W>) -> fmt::Result {
+        let e = self.0;
+        write!(
+            f,
+            "{} {} {} {} ",
+            e.kind.0,
+            e.moment.0,
+            e.delay.0,
+            side(e.client)
+        )?;
+        let flags = [e.padding, e.bypass, e.replace].map(u64::from);
+        write!(f, "{} {} {} {}", flags[0], flags[1], flags[2], e.machine)
     }
 }
 
-pub fn told_step(out: &mut [u8], used: usize, a: Step) -> usize
-    requires { used ≤ length out.old }
-    ensures { result ≤ length out.new }
-{
-    match a {
-        Step::Made(s) => told_made(out, used, s),
-        Step::Refused(r) => refused(out, used, r),
+#[derive(Clone, Copy)]
+struct Refused(Refusal);
+
+impl fmt::Display for Refused {
+    fn fmt<W: fmt::Write>(&self, f: &mut fmt::Formatter<W>) -> fmt::Result {
+        write!(f, "refused {} {}", self.0.reason.number(), self.0.rounds)
     }
 }
 
-fn told_made(out: &mut [u8], used: usize, s: Stepped) -> usize
-    requires { used ≤ length out.old }
-    ensures { result ≤ length out.new }
-{
-    let at = told_activity(out, used, s.active);
-    let falls = s.falls;
-    let end = told_falls(out, at, falls);
-    text::put(out, end, b"\n")
-}
-
-fn told_activity(out: &mut [u8], used: usize, active: bool) -> usize
-    requires { used ≤ length out.old }
-    ensures { result ≤ length out.new }
-{
-    if active {
-        return text::put(out, used, b"yes");
-    }
-    text::put(out, used, b"no")
+pub fn told(out: &mut Output<'_>, a: Answer) {
+    let _ = match a {
+        Ok(()) => writeln!(out, "ok"),
+        Err(r) => writeln!(out, "{}", Refused(r)),
+    };
 }
 
 // When the packet count falls, or `-`.
-fn told_falls(out: &mut [u8], used: usize, falls: Falls) -> usize
-    requires { used ≤ length out.old }
-    ensures { result ≤ length out.new }
-{
-    let at = text::put(out, used, b" falls");
-    match falls {
-        Falls::Never => text::put(out, at, b" -"),
-        Falls::At(t) => text::put_next(out, at, t.0),
-    }
+pub fn told_step(out: &mut Output<'_>, a: Step) {
+    let _ = match a {
+        Ok(s) => {
+            let activity = if s.active { "yes" } else { "no" };
+            writeln!(out, "{activity} falls {}", OrDash(s.falls.map(|t| t.0)))
+        },
+        Err(r) => writeln!(out, "{}", Refused(r)),
+    };
 }
 
-fn told_rounds(out: &mut [u8], used: usize, rounds: u64) -> usize
-    requires { used ≤ length out.old }
-    ensures { result ≤ length out.new }
-{
-    let at = text::put(out, used, b" rounds");
-    let number = text::put_next(out, at, rounds);
-    text::put(out, number, b"\n")
+pub fn told_choice(out: &mut Output<'_>, a: Choice) {
+    let _ = match a {
+        Ok(c) => match c.event {
+            Some(e) => writeln!(out, "event {} rounds {}", Words(e), c.rounds),
+            None => writeln!(out, "nothing rounds {}", c.rounds),
+        },
+        Err(r) => writeln!(out, "{}", Refused(r)),
+    };
 }
 
-fn told_event(out: &mut [u8], used: usize, e: SimEvent, rounds: u64) -> usize
-    requires { used ≤ length out.old }
-    ensures { result ≤ length out.new }
-{
-    let at = text::put(out, used, b"event");
-    let event = put_event(out, at, e);
-    told_rounds(out, event, rounds)
-}
-
-fn told_nothing(out: &mut [u8], used: usize, rounds: u64) -> usize
-    requires { used ≤ length out.old }
-    ensures { result ≤ length out.new }
-{
-    let at = text::put(out, used, b"nothing");
-    told_rounds(out, at, rounds)
-}
-
-pub fn told_choice(out: &mut [u8], used: usize, a: Choice) -> usize
-    requires { used ≤ length out.old }
-    ensures { result ≤ length out.new }
-{
-    match a {
-        Choice::Event(c) => told_event(out, used, c.event, c.rounds),
-        Choice::Nothing(f) => told_nothing(out, used, f.rounds),
-        Choice::Refused(r) => refused(out, used, r),
-    }
-}
-
-pub fn bad_line(out: &mut [u8], used: usize, line_number: u64) -> usize
-    requires { used ≤ length out.old }
-    ensures { result ≤ length out.new }
-{
-    let at = text::put(out, used, b"bad line");
-    let number = text::put_next(out, at, line_number);
-    text::put(out, number, b"\n")
+pub fn bad_line(out: &mut Output<'_>, line_number: u64) {
+    let _ = writeln!(out, "bad line {line_number}");
 }

@@ -1,7 +1,9 @@
 // The words of the header that `show` lists (docs/LAYOUT.md).
-ghost use Rattle.std.specs.Prelude.{◌≡◌, ◌≤◌, length, get_or};
+ghost use Rattle.std.specs.Prelude.{◌≡◌, ◌≤◌, ℕ, ◌+◌, get_or};
 
-use crate::text;
+use crate::text::{OrDash, Output, side};
+use std::fmt;
+use std::fmt::Write;
 
 const WINDOW: usize = 3;
 
@@ -22,95 +24,50 @@ const FREE: usize = 24;
 pub(crate) fn at(block: &[u64], i: usize) -> u64
     ensures { result ≡ get_or block.now i 0 }
 {
-    if i < block.len() {
-        return block[i];
+    block.get(i).copied().unwrap_or(0)
+}
+
+// The number before a word that holds it as one more; 0 for none.
+pub(crate) fn held(word: u64) -> OrDash
+    ensures none { word ≡ 0 → result.0 ≡ None }
+    ensures some { (n : ℕ) → word ≡ n + 1 → result.0 ≡ Some n }
+{
+    OrDash(word.checked_sub(1))
+}
+
+// A rate: 0 for none.
+fn rate(word: u64) -> OrDash {
+    OrDash(if word == 0 { None } else { Some(word) })
+}
+
+fn put_settings(out: &mut Output<'_>, block: &[u64]) -> fmt::Result {
+    write!(out, "settings {}", at(block, 0))?;
+    write!(out, " {} {}", rate(at(block, 1)), rate(at(block, 2)))?;
+    for i in WINDOW..SUM {
+        write!(out, " {}", at(block, i))?;
     }
-    0
-}
-
-// n words from this one on, each after a space, and the end of the line.
-fn put_words(block: &[u64], from: usize, n: usize, out: &mut [u8], used: usize) -> usize
-    requires { (from ≤ 1000) × ((n ≤ 1000) × (used ≤ length out.old)) }
-    ensures { result ≤ length out.new }
-{
-    let mut i = 0;
-    let mut u = used;
-    while i < n {
-        u = text::put_next(out, u, at(block, from + i));
-        i += 1;
-    }
-    text::put(out, u, b"\n")
-}
-
-fn put_settings(block: &[u64], out: &mut [u8], used: usize) -> usize
-    requires { used ≤ length out.old }
-    ensures { result ≤ length out.new }
-{
-    let a = text::put(out, used, b"settings");
-    let b = text::put_next(out, a, at(block, 0));
-    let c = put_rates(block, out, b);
-    put_words(block, WINDOW, 7, out, c)
-}
-
-fn put_rates(block: &[u64], out: &mut [u8], used: usize) -> usize
-    requires { used ≤ length out.old }
-    ensures { result ≤ length out.new }
-{
-    let a = text::put_rate(out, used, at(block, 1));
-    text::put_rate(out, a, at(block, 2))
-}
-
-fn put_sums(block: &[u64], out: &mut [u8], used: usize) -> usize
-    requires { used ≤ length out.old }
-    ensures { result ≤ length out.new }
-{
-    let a = text::put(out, used, b"sums");
-    put_words(block, SUM, 2, out, a)
+    writeln!(out)
 }
 
 // The block end and the flag of a side, 0 for the client and 1 for the server.
-fn put_block(block: &[u64], side: usize, out: &mut [u8], used: usize) -> usize
-    requires { (side ≤ 1) × (used ≤ length out.old) }
-    ensures { result ≤ length out.new }
+fn put_block(out: &mut Output<'_>, block: &[u64], s: usize) -> fmt::Result
+    requires { s ≤ 1 }
 {
-    let a = text::put(out, used, b"block");
-    let b = text::put_side(out, a, side == 0);
-    let c = text::put_held(out, b, at(block, BLOCK + side));
-    put_words(block, BYPASSABLE + side, 1, out, c)
+    let end = held(at(block, BLOCK + s));
+    writeln!(
+        out,
+        "block {} {end} {}",
+        side(s == 0),
+        at(block, BYPASSABLE + s)
+    )
 }
 
-fn put_blocks(block: &[u64], out: &mut [u8], used: usize) -> usize
-    requires { used ≤ length out.old }
-    ensures { result ≤ length out.new }
-{
-    let a = put_block(block, 0, out, used);
-    put_block(block, 1, out, a)
-}
-
-// A word of the header on a line of its own, after its name.
-fn put_named(block: &[u64], name: &[u8], i: usize, out: &mut [u8], used: usize) -> usize
-    requires { (i ≤ 1000) × (used ≤ length out.old) }
-    ensures { result ≤ length out.new }
-{
-    let a = text::put(out, used, name);
-    put_words(block, i, 1, out, a)
-}
-
-fn put_totals(block: &[u64], out: &mut [u8], used: usize) -> usize
-    requires { used ≤ length out.old }
-    ensures { result ≤ length out.new }
-{
-    let a = put_named(block, b"ended", ENDED, out, used);
-    let b = put_named(block, b"rounds", ROUNDS, out, a);
-    put_named(block, b"free", FREE + 1, out, b)
-}
-
-pub(crate) fn put_header(block: &[u64], out: &mut [u8], used: usize) -> usize
-    requires { used ≤ length out.old }
-    ensures { result ≤ length out.new }
-{
-    let a = put_settings(block, out, used);
-    let b = put_sums(block, out, a);
-    let c = put_blocks(block, out, b);
-    put_totals(block, out, c)
+pub(crate) fn put_header(out: &mut Output<'_>, block: &[u64]) -> fmt::Result {
+    put_settings(out, block)?;
+    writeln!(out, "sums {} {}", at(block, SUM), at(block, SUM + 1))?;
+    put_block(out, block, 0)?;
+    put_block(out, block, 1)?;
+    writeln!(out, "ended {}", at(block, ENDED))?;
+    writeln!(out, "rounds {}", at(block, ROUNDS))?;
+    writeln!(out, "free {}", at(block, FREE + 1))
 }

@@ -1,115 +1,77 @@
-// Answers, written through a buffer: each function puts its text after the used bytes and answers how many are used then.
-ghost use Rattle.std.specs.Prelude.{◌≡◌, ◌+◌, ◌≤◌, length};
+// Text that waits in a buffer for standard output.
+ghost use Rattle.std.specs.Prelude.{◌≡◌, ◌+◌, ◌≤◌, length, if◌then◌else◌};
+
+use std::fmt;
 
 // The descriptor of standard output.
 const STDOUT_FILENO: i32 = 1;
 
-fn copy(out: &mut [u8], used: usize, text: &[u8]) -> usize
-    requires { used + length text.now ≤ length out.old }
-    ensures { result ≤ length out.new }
-{
-    let mut i = 0;
-    while i < text.len() {
-        out[used + i] = text[i];
-        i += 1;
+// The used bytes of the buffer wait to be written.
+#[derive(Drop)]
+pub struct Output<'a> {
+    pub buffer: &'a mut [u8],
+    pub used: usize,
+    pub ghost within: { used ≤ length buffer.now },
+}
+
+impl<'a> Output<'a> {
+    pub fn new(buffer: &'a mut [u8]) -> Output<'a> {
+        Output { buffer, used: 0 }
     }
-    used + i
-}
 
-// The used bytes are written out first where there is no room.
-pub fn put(out: &mut [u8], used: usize, text: &[u8]) -> usize
-    requires { used ≤ length out.old }
-    ensures { result ≤ length out.new }
-{
-    if text.len() <= out.len() - used {
-        return copy(out, used, text);
+    fn room(&self) -> usize
+        ensures { result + self.now.used ≡ length self.now.buffer.now }
+    {
+        self.buffer.len() - self.used
     }
-    let start = flush(out, used);
-    if text.len() <= out.len() {
-        return copy(out, start, text);
+
+    // The used bytes are written out first where there is no room, and the text itself where the whole buffer has none.
+    pub fn put(&mut self, text: &[u8]) {
+        if text.len() > self.room() {
+            self.flush();
+        }
+        if text.len() <= self.room() {
+            let end = self.used + text.len();
+            let used = self.used;
+            self.buffer[used..end].copy_from_slice(text);
+            self.used = end;
+        } else {
+            io::write_all(STDOUT_FILENO, text);
+        }
     }
-    io::write_all(STDOUT_FILENO, text);
-    start
-}
 
-pub fn put_number(out: &mut [u8], used: usize, n: u64) -> usize
-    requires { used ≤ length out.old }
-    ensures { result ≤ length out.new }
-{
-    let mut text = [0u8; 20];
-    let k = io::decimal(n, &mut text);
-    put(out, used, &text[..k])
-}
-
-// A space and a number.
-pub fn put_next(out: &mut [u8], used: usize, n: u64) -> usize
-    requires { used ≤ length out.old }
-    ensures { result ≤ length out.new }
-{
-    if n < 10 {
-        return put(out, used, &[b' ', 48 + n as u8]);
+    // Writes the used bytes to standard output; none are used then. Of what is written no contract can speak.
+    pub fn flush(&mut self)
+        ensures { self.new.used ≡ 0 }
+    {
+        io::write_all(STDOUT_FILENO, &self.buffer[..self.used]);
+        self.used = 0;
     }
-    let at = put(out, used, b" ");
-    put_number(out, at, n)
 }
 
-pub fn put_three(out: &mut [u8], used: usize, a: u64, b: u64, c: u64) -> usize
-    requires { used ≤ length out.old }
-    ensures { result ≤ length out.new }
-{
-    let x = put_next(out, used, a);
-    let y = put_next(out, x, b);
-    put_next(out, y, c)
-}
-
-// The number before a word that holds it as one more; 0 for none.
-pub fn put_held(out: &mut [u8], used: usize, word: u64) -> usize
-    requires { used ≤ length out.old }
-    ensures { result ≤ length out.new }
-{
-    if word == 0 {
-        return put(out, used, b" -");
+impl fmt::Write for Output<'_> {
+    fn write_str(&mut self, s: &str) -> fmt::Result {
+        self.put(s.as_bytes());
+        Ok(())
     }
-    put_next(out, used, word - 1)
 }
 
-// A rate: 0 for none.
-pub fn put_rate(out: &mut [u8], used: usize, word: u64) -> usize
-    requires { used ≤ length out.old }
-    ensures { result ≤ length out.new }
-{
-    if word == 0 {
-        return put(out, used, b" -");
+// A number, or `-` where there is none.
+#[derive(Clone, Copy)]
+pub(crate) struct OrDash(pub Option<u64>);
+
+impl fmt::Display for OrDash {
+    fn fmt<W: fmt::Write>(&self, f: &mut fmt::Formatter<W>) -> fmt::Result {
+        match self.0 {
+            Some(n) => write!(f, "{n}"),
+            None => write!(f, "-"),
+        }
     }
-    put_next(out, used, word)
 }
 
-pub fn put_side(out: &mut [u8], used: usize, client: bool) -> usize
-    requires { used ≤ length out.old }
-    ensures { result ≤ length out.new }
+// The letter of a side.
+pub(crate) fn side(client: bool) -> char
+    ensures { result ≡ (if client then 99 else 115) }
 {
-    if client {
-        return put(out, used, b" c");
-    }
-    put(out, used, b" s")
-}
-
-fn bit(b: bool) -> u64 {
-    if b { 1 } else { 0 }
-}
-
-pub fn put_flag(out: &mut [u8], used: usize, b: bool) -> usize
-    requires { used ≤ length out.old }
-    ensures { result ≤ length out.new }
-{
-    put_next(out, used, bit(b))
-}
-
-// Writes the used bytes to standard output; none are used then. Of what is written no contract can speak.
-pub fn flush(out: &[u8], used: usize) -> usize
-    requires { used ≤ length out.now }
-    ensures { result ≡ 0 }
-{
-    io::write_all(STDOUT_FILENO, &out[0..used]);
-    0
+    if client { 'c' } else { 's' }
 }

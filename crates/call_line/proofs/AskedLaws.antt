@@ -1,22 +1,26 @@
 -- What the line asks for that is held when it ends. Assumes nothing.
-use Prim.Native.Nat.{ℕ, ◌<◌}
+use Prim.Native.Nat.{ℕ, ◌-◌, ◌<◌}
+use Rattle.std.specs.Prelude.{min}
 use mathlib.Core.Path.{◌≡◌, refl, sym, ap, subst, ◌∙◌}
 use mathlib.Core.Bool.{Bool, true, false}
 use mathlib.Core.Logic.{◌⊎◌, inl, inr}
 use mathlib.Core.List.{List, [], ◌∷◌, map}
 use native.Mathlib.Omega.{arith}
-use lib.ListN.{length, take, length-map}
+use lib.Dec.{leb}
+use lib.ListN.{length, take, drop, length-map}
 use lib.Seq.{take_all}
-use borrow.Author.Tests.{eqb-true, eq-eqb}
+use borrow.Author.Tests.{eqb-true, eq-eqb, leb-true, leb-false}
 use Rattle.call_words.specs.Names.{named}
-use Rattle.call_words.specs.declared.names.Name.TheVariants.{Bad}
+use Rattle.std.specs.Prelude.{None}
 use Rattle.call_words.specs.Asked.{Asks, passed_over, bad, understood}
 use Rattle.call_line.specs.Words.{Line, parted, read, without_cr, words_of}
-use Rattle.call_line.specs.Numerals.{form_of, value_of}
+use Rattle.call_line.specs.Numerals.{argument_of}
 use Rattle.call_line.specs.Lines.{is_comment, asked_by_words, asked_by}
-use Rattle.call_line.specs.Held.{has_cr, Spelt, Ended, InFirst, InArguments, is_comment_line, At, in_first, in_arguments, Held, comment, plain, first_cr, argument_cr, Sized, Asks-for}
+use Rattle.call_line.specs.Held.{has_cr, Spelt, Ended, InFirst, InArguments, is_comment_line, At, in_first, in_arguments, Held, comment, plain, first_cr, argument_cr, Sized, AsksFor}
 use Rattle.call_line.specs.Steps.{WithoutCR, Parts, passes_over, end_in_argument, end_none}
 use Rattle.call_line.specs.declared.line.Line.{Line as Kept}
+use Rattle.call_line.specs.declared.line.Place.TheVariants.{Arguments, Comment, FirstWordCr, ArgumentsCr}
+use Rattle.call_words.specs.declared.shapes.Argument.{Argument}
 use Rattle.call_line.proofs.ByteLaws.{passes_comment, passes_else}
 use Rattle.call_line.proofs.WordLaws.{without_cr_lem}
 use Rattle.call_line.proofs.NameLaws.{named_long, named_cr, bad_name, too_many}
@@ -35,7 +39,7 @@ comment_asked (f ∷ e) (b ∷ w) c = simp c
 none_asked : (e : List (List ℕ)) (w : List ℕ) → e ≡ [] → w ≡ [] → passed_over ≡ asked_by_words (parted e w).ended
 none_asked e w no_words no_word = sym (ap (λ (v : List ℕ). asked_by_words (parted e v).ended) no_word ∙ ap asked_by_words no_words)
 
-no_letters : (k : Kept) → (k.place ≡ 2 → ⊥) → passes_over k ≡ true → k.letters ≡ 0
+no_letters : (k : Kept) → (k.place ≡ Comment → ⊥) → passes_over k ≡ true → k.letters ≡ 0
 no_letters k other e = eqb-true k.letters 0 (passes_else k other ∙ e)
 
 -- the same without its CR
@@ -50,85 +54,83 @@ first_passed q k name len i none =
     none_asked (read q).ended (read q).word i.ended (spelt_none (read q).word name k.letters len i.spelt none)
 
 held_passed :
-    (p : List ℕ) (k : Kept) (name forms values : List ℕ) → length name ≡ 24 → passes_over k ≡ true → Held p k name forms values
+    (p : List ℕ) (k : Kept) (name : List ℕ) (kept : List Argument) → length name ≡ 24 → passes_over k ≡ true → Held p k name kept
     → passed_over ≡ asked_by p
-held_passed p k name forms values len e (comment place _ c) =
+held_passed p k name kept len e (comment place _ c) =
     same_words p (without_cr p) refl (comment_asked (read (without_cr p)).ended (read (without_cr p)).word c)
-held_passed p k name forms values len e (plain same (in_first place i)) =
-    same_words p p same (first_passed p k name len i (no_letters k (λ z. omega (arith, z, place)) e))
-held_passed p k name forms values len e (plain same (in_arguments place i)) =
-    absurd (i.some (no_letters k (λ z. omega (arith, z, place)) e))
-held_passed p k name forms values len e (first_cr q is place i) =
-    same_words p q (ap without_cr is ∙ without_cr_lem q) (first_passed q k name len i (no_letters k (λ z. omega (arith, z, place)) e))
-held_passed p k name forms values len e (argument_cr q is place i) =
-    absurd (i.some (no_letters k (λ z. omega (arith, z, place)) e))
+held_passed p k name kept len e (plain same (in_first place i)) =
+    same_words p p same (first_passed p k name len i (no_letters k (λ z. cc) e))
+held_passed p k name kept len e (plain same (in_arguments place i)) =
+    absurd (i.some (no_letters k (λ z. cc) e))
+held_passed p k name kept len e (first_cr q is place i) =
+    same_words p q (ap without_cr is ∙ without_cr_lem q) (first_passed q k name len i (no_letters k (λ z. cc) e))
+held_passed p k name kept len e (argument_cr q is place i) =
+    absurd (i.some (no_letters k (λ z. cc) e))
 
 pub asks_none :
-    (k : Kept) (name forms values : List ℕ) (r : Bool) → r ≡ passes_over k → r ≡ true → Asks-for k name forms values passed_over forms values
-asks_none k name forms values r is passes = λ p h.
-    (held_passed p k name forms values h.sized.letters (sym is ∙ passes) h.held, holds_start name forms values h.sized)
+    (k : Kept) (name : List ℕ) (kept : List Argument) (r : Bool) → r ≡ passes_over k → r ≡ true → AsksFor k name kept passed_over name kept
+asks_none k name kept r is passes = λ p h.
+    (held_passed p k name kept h.sized.letters (sym is ∙ passes) h.held, holds_start name kept h.sized)
 
 -- ---- a line that ends
 
 -- what is kept is kept of the line without its CR
-abbrev Ending : Line → Kept → List ℕ → List ℕ → List ℕ → Type 0
-Ending l t name forms values = (t.place ≡ 1 → InArguments l t name forms values) × ((t.place ≡ 1 → ⊥) → InFirst l t name)
+abbrev Ending : Line → Kept → List ℕ → List Argument → Type 0
+Ending l t name kept = (t.place ≡ Arguments → InArguments l t name kept) × ((t.place ≡ Arguments → ⊥) → InFirst l t name)
 
 ending_plain :
-    (l : Line) (k t : Kept) (name forms values : List ℕ) → WithoutCR k t → At l k name forms values → Ending l t name forms values
-ending_plain l k _ name forms values (end_in_argument cr) (in_first place i) = absurd (omega (arith, cr, place))
-ending_plain l k _ name forms values (end_in_argument cr) (in_arguments place i) = absurd (omega (arith, cr, place))
-ending_plain l k _ name forms values (end_none _) (in_first place i) = (λ one. absurd (omega (arith, one, place)), λ _. i)
-ending_plain l k _ name forms values (end_none _) (in_arguments place i) = (λ _. i, λ other. absurd (other place))
+    (l : Line) (k t : Kept) (name : List ℕ) (kept : List Argument) → WithoutCR k t → At l k name kept → Ending l t name kept
+ending_plain l k _ name kept (end_in_argument cr) (in_first place i) = cc
+ending_plain l k _ name kept (end_in_argument cr) (in_arguments place i) = cc
+ending_plain l k _ name kept (end_none _) (in_first place i) = (λ one. cc, λ _. i)
+ending_plain l k _ name kept (end_none _) (in_arguments place i) = (λ _. i, λ other. absurd (other place))
 
 ending_first :
-    (l : Line) (k t : Kept) (name forms values : List ℕ) → WithoutCR k t → k.place ≡ 3 → InFirst l k name → Ending l t name forms values
-ending_first l k _ name forms values (end_in_argument cr) place i = absurd (omega (arith, cr, place))
-ending_first l k _ name forms values (end_none _) place i = (λ one. absurd (omega (arith, one, place)), λ _. i)
+    (l : Line) (k t : Kept) (name : List ℕ) (kept : List Argument) → WithoutCR k t → k.place ≡ FirstWordCr → InFirst l k name → Ending l t name kept
+ending_first l k _ name kept (end_in_argument cr) place i = cc
+ending_first l k _ name kept (end_none _) place i = (λ one. cc, λ _. i)
 
 ending_argument :
-    (l : Line) (k t : Kept) (name forms values : List ℕ) → WithoutCR k t → k.place ≡ 4 → InArguments l k name forms values
-    → Ending l t name forms values
-ending_argument l k _ name forms values (end_in_argument cr) place i =
-    (λ _. arguments_placed l k 1 name forms values i, λ other. absurd (other refl))
-ending_argument l k _ name forms values (end_none other) place i = absurd (other place)
+    (l : Line) (k t : Kept) (name : List ℕ) (kept : List Argument) → WithoutCR k t → k.place ≡ ArgumentsCr → InArguments l k name kept
+    → Ending l t name kept
+ending_argument l k _ name kept (end_in_argument cr) place i =
+    (λ _. arguments_placed l k Arguments name kept i, λ other. absurd (other refl))
+ending_argument l k _ name kept (end_none other) place i = absurd (other place)
 
 ending :
-    (p : List ℕ) (k t : Kept) (name forms values : List ℕ) → (k.place ≡ 2 → ⊥) → WithoutCR k t → Held p k name forms values
-    → Ending (read (without_cr p)) t name forms values
-ending p k t name forms values other without (comment place _ _) = absurd (other place)
-ending p k t name forms values other without (plain same here) =
-    subst (λ (q : List ℕ). Ending (read q) t name forms values) (sym same) (ending_plain (read p) k t name forms values without here)
-ending p k t name forms values other without (first_cr q is place i) =
-    subst (λ (x : List ℕ). Ending (read x) t name forms values) (sym (ap without_cr is ∙ without_cr_lem q))
-    (ending_first (read q) k t name forms values without place i)
-ending p k t name forms values other without (argument_cr q is place i) =
-    subst (λ (x : List ℕ). Ending (read x) t name forms values) (sym (ap without_cr is ∙ without_cr_lem q))
-    (ending_argument (read q) k t name forms values without place i)
+    (p : List ℕ) (k t : Kept) (name : List ℕ) (kept : List Argument) → (k.place ≡ Comment → ⊥) → WithoutCR k t → Held p k name kept
+    → Ending (read (without_cr p)) t name kept
+ending p k t name kept other without (comment place _ _) = absurd (other place)
+ending p k t name kept other without (plain same here) =
+    subst (λ (q : List ℕ). Ending (read q) t name kept) (sym same) (ending_plain (read p) k t name kept without here)
+ending p k t name kept other without (first_cr q is place i) =
+    subst (λ (x : List ℕ). Ending (read x) t name kept) (sym (ap without_cr is ∙ without_cr_lem q))
+    (ending_first (read q) k t name kept without place i)
+ending p k t name kept other without (argument_cr q is place i) =
+    subst (λ (x : List ℕ). Ending (read x) t name kept) (sym (ap without_cr is ∙ without_cr_lem q))
+    (ending_argument (read q) k t name kept without place i)
 
 -- ---- its words, as they are kept
 
-too_many_words : (l : List (List ℕ)) (w : List ℕ) → 12 < length l → understood w (map form_of l) (map value_of l) ≡ bad
-too_many_words l w many = too_many w (map form_of l) (map value_of l) (omega (arith, many, length-map l form_of))
+too_many_words : (l : List (List ℕ)) (w : List ℕ) → 12 < length l → understood w (map argument_of l) ≡ bad
+too_many_words l w many = too_many w (map argument_of l) (omega (arith, many, length-map l argument_of))
 
 understood_kept :
-    (first name : List ℕ) (letters : ℕ) (l : List (List ℕ)) (forms values : List ℕ) (n : ℕ) → Sized name forms values
-    → Spelt first name letters → Ended l forms values n
-    → understood (take letters name) (take n forms) (take n values) ≡ understood first (map form_of l) (map value_of l)
-understood_kept first name letters l forms values n s (inl (_, is)) (inl (_, (is-forms, is-values))) =
-    ap (λ (w : List ℕ). understood w (take n forms) (take n values)) is
-    ∙ ap (λ (f : List ℕ). understood first f (take n values)) is-forms
-    ∙ ap (λ (v : List ℕ). understood first (map form_of l) v) is-values
-understood_kept first name letters l forms values n s (inl _) (inr (more, many)) =
-    let all : take n forms ≡ forms = take_all n forms (omega (arith, more, s.many_forms)) in
-    too_many (take letters name) (take n forms) (take n values) (omega (arith, ap length all, s.many_forms))
+    (first name : List ℕ) (letters : ℕ) (l : List (List ℕ)) (kept : List Argument) (n : ℕ) → Sized name kept
+    → Spelt first name letters → Ended l kept n
+    → understood (take letters name) (take n kept) ≡ understood first (map argument_of l)
+understood_kept first name letters l kept n s (inl (_, is)) (inl (_, are)) =
+    ap (λ (w : List ℕ). understood w (take n kept)) is ∙ ap (λ (a : List Argument). understood first a) are
+understood_kept first name letters l kept n s (inl _) (inr (more, many)) =
+    let all : take n kept ≡ kept = take_all n kept (omega (arith, more, s.many)) in
+    too_many (take letters name) (take n kept) (omega (arith, ap length all, s.many))
     ∙ sym (too_many_words l first many)
-understood_kept first name letters l forms values n s (inr (over, long)) ended =
+understood_kept first name letters l kept n s (inr (over, long)) ended =
     let all : take letters name ≡ name = take_all letters name (omega (arith, over, s.letters)) in
-    bad_name (take letters name) (take n forms) (take n values) (named_long (take letters name) (omega (arith, ap length all, s.letters)))
-    ∙ sym (bad_name first (map form_of l) (map value_of l) (unnamed long))
+    bad_name (take letters name) (take n kept) (named_long (take letters name) (omega (arith, ap length all, s.letters)))
+    ∙ sym (bad_name first (map argument_of l) (unnamed long))
   where
-    unnamed : (24 < length first) ⊎ (has_cr first ≡ true) → named first ≡ Bad
+    unnamed : (24 < length first) ⊎ (has_cr first ≡ true) → named first ≡ None
     unnamed (inl more) = named_long first (omega (arith, more))
     unnamed (inr cr) = named_cr first cr
 
@@ -140,38 +142,50 @@ without_letters : (k t : Kept) → WithoutCR k t → t.letters ≡ k.letters
 without_letters k _ (end_in_argument cr) = refl
 without_letters k _ (end_none other) = refl
 
-call_asked : (w : List ℕ) (l : List (List ℕ)) → is_comment w ≡ false → understood w (map form_of l) (map value_of l) ≡ asked_by_words (w ∷ l)
+call_asked : (w : List ℕ) (l : List (List ℕ)) → is_comment w ≡ false → understood w (map argument_of l) ≡ asked_by_words (w ∷ l)
 call_asked w l e = simp e
 
 kept_asked :
-    (m : Line) (r : Kept) (name forms values : List ℕ) → Sized name forms values → m.word ≡ [] → (r.letters ≡ 0 → ⊥) → At m r name forms values
-    → understood (take r.letters name) (take r.arguments forms) (take r.arguments values) ≡ asked_by_words m.ended
-kept_asked m r name forms values s none some (in_first place i) =
+    (m : Line) (r : Kept) (name : List ℕ) (kept : List Argument) → Sized name kept → m.word ≡ [] → (r.letters ≡ 0 → ⊥) → At m r name kept
+    → understood (take r.letters name) (take r.arguments kept) ≡ asked_by_words m.ended
+kept_asked m r name kept s none some (in_first place i) =
     absurd (spelt_some m.word name r.letters s.letters i.spelt some none)
-kept_asked m r name forms values s none some (in_arguments place i) =
-    understood_kept i.first name r.letters i.arguments forms values r.arguments s i.spelt i.held
+kept_asked m r name kept s none some (in_arguments place i) =
+    understood_kept i.first name r.letters i.arguments kept r.arguments s i.spelt i.held
     ∙ call_asked i.first i.arguments i.call
     ∙ ap asked_by_words (sym i.ended)
 
 pub asks_kept :
-    (k t r : Kept) (name forms values forms' values' : List ℕ) (passed : Bool) (a : Asks) → passed ≡ passes_over k → passed ≡ false → WithoutCR k t
-    → Parts t forms values r forms' values'
-    → a ≡ understood (take r.letters name) (take r.arguments forms') (take r.arguments values')
-    → Asks-for k name forms values a forms' values'
+    (k t r : Kept) (name : List ℕ) (kept : List Argument) (name' : List ℕ) (kept' : List Argument) (passed : Bool) (a : Asks) → passed ≡ passes_over k → passed ≡ false → WithoutCR k t
+    → Parts t kept r kept'
+    → name' ≡ name → a ≡ understood (take r.letters name') (take r.arguments kept')
+    → AsksFor k name kept a name' kept'
 unfolding asked_by words_of
-asks_kept k t r name forms values forms' values' passed a is not-passed without parts e = λ p h.
+asks_kept k t r name kept name' kept' passed a is not-passed without parts stays e = λ p h.
     let call : passes_over k ≡ false = sym is ∙ not-passed in
-    let other : k.place ≡ 2 → ⊥ = λ place. never (passes_comment k place ∙ call) in
+    let other : k.place ≡ Comment → ⊥ = λ place. never (passes_comment k place ∙ call) in
     let some : r.letters ≡ 0 → ⊥ = λ none.
     never (sym (eq-eqb k.letters 0 (sym (parts.letters ∙ without_letters k t without) ∙ none)) ∙ passes_else k other ∙ call) in
     let l = read (without_cr p) in
-    let way = ending p k t name forms values other without h.held in
-    let after = parts.line l name h.sized way.0 way.1 in (
-      e ∙ kept_asked (parted l.ended l.word) r name forms' values' after.0 (no_word_left l.ended l.word) some after.1,
-      holds_start name forms' values' after.0,
-    )
+    let way = ending p k t name kept other without h.held in
+    let after = parts.line l name h.sized way.0 way.1 in
+    let sized : Sized name' kept' = subst (λ (n : List ℕ). Sized n kept') (sym stays) after.0 in
+    let there : At (parted l.ended l.word) r name' kept' = subst (λ (n : List ℕ). At (parted l.ended l.word) r n kept') (sym stays) after.1 in
+    (e ∙ kept_asked (parted l.ended l.word) r name' kept' sized (no_word_left l.ended l.word) some there, holds_start name' kept' sized)
   where
     never : true ≡ false → ⊥
     never d =
         let z : ◌≡◌ {A = ℕ} 0 1 = cc in
         omega arith
+
+-- so many words, or all there are
+pub take_cut : {A : Type 0} (s : List A) (n m : ℕ) → length s ≡ m → take (min n m - 0) (drop 0 s) ≡ take n s
+take_cut s n m e = by (leb n m) refl
+  where
+    by : (fits : Bool) → leb n m ≡ fits → take (min n m - 0) (drop 0 s) ≡ take n s
+    by true f =
+        let all : min n m - 0 ≡ n = omega (arith, leb-true n m f) in
+        ap (λ (i : ℕ). take i s) all
+    by false f =
+        let short : min n m - 0 ≡ m = omega (arith, leb-false n m f) in
+        ap (λ (i : ℕ). take i s) short ∙ take_all m s (omega (arith, e)) ∙ sym (take_all n s (omega (arith, e, leb-false n m f)))

@@ -1,14 +1,16 @@
 -- What the tests of a byte and of a place have shown, as the definitions have it. Assumes nothing.
 use Prim.Native.Nat.{ℕ, ◌≤◌}
-use mathlib.Core.Path.{◌≡◌, refl, ◌∙◌}
+use mathlib.Core.Path.{◌≡◌, refl, sym, ap, ◌∙◌}
 use mathlib.Core.Bool.{Bool, true, false}
 use native.Mathlib.Omega.{arith}
 use lib.Dec.{eqb, leb}
-use borrow.Author.Tests.{le-leb, eq-eqb, ne_eqb, leb-true}
+use borrow.Author.Tests.{le-leb, leb-true}
 use Rattle.std.specs.Prelude.{if◌then◌else◌}
 use Rattle.call_line.specs.Numerals.{is_digit}
-use Rattle.call_line.specs.Steps.{passes_over}
+use Rattle.call_line.specs.Steps.{in_comment_place, passes_over}
 use Rattle.call_line.specs.declared.line.Line.{Line as Kept}
+use Rattle.call_line.specs.declared.line.Place.{Place}
+use Rattle.call_line.specs.declared.line.Place.TheVariants.{FirstWord, Arguments, Comment, FirstWordCr, ArgumentsCr}
 
 -- ---- digits
 
@@ -30,8 +32,15 @@ digit_high b e = leb-true b 57 (digit_else b (digit_low b e) ∙ e)
 
 -- ---- a line that is passed over
 
-pub passes_comment : (k : Kept) → k.place ≡ 2 → true ≡ passes_over k
-passes_comment k e = simp (eq-eqb k.place 2 e)
+pub passes_comment : (k : Kept) → k.place ≡ Comment → true ≡ passes_over k
+passes_comment k e = sym (ap (λ (p : Place). if in_comment_place p then true else eqb k.letters 0) e)
 
-pub passes_else : (k : Kept) → (k.place ≡ 2 → ⊥) → eqb k.letters 0 ≡ passes_over k
-passes_else k other = simp (ne_eqb k.place 2 other)
+pub passes_else : (k : Kept) → (k.place ≡ Comment → ⊥) → eqb k.letters 0 ≡ passes_over k
+passes_else k other = by k.place other
+  where
+    by : (p : Place) → (p ≡ Comment → ⊥) → eqb k.letters 0 ≡ (if in_comment_place p then true else eqb k.letters 0)
+    by FirstWord o = refl
+    by Arguments o = refl
+    by Comment o = absurd (o refl)
+    by FirstWordCr o = refl
+    by ArgumentsCr o = refl

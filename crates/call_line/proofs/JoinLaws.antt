@@ -11,8 +11,9 @@ use Rattle.call_words.specs.Shapes.{numeric}
 use Rattle.call_line.specs.Numerals.{is_digit, decimal_from, is_number, form_of, value_of}
 use Rattle.call_line.specs.Steps.{longer_of, spoilt_of, Joins, LateDigit}
 use Rattle.call_line.specs.declared.line.Line.{Line as Kept}
-use Rattle.call_line.specs.declared.line.Number.TheVariants.{Is, TooLarge}
-use Rattle.call_line.specs.declared.line.Number.{Number}
+use Rattle.std.specs.Prelude.{Option, Some, None}
+use Rattle.call_words.specs.declared.shapes.Form.{Form}
+use Rattle.call_words.specs.declared.shapes.Form.TheVariants.{NoWord, Number}
 use Rattle.call_line.proofs.ByteLaws.{digit_low, digit_high}
 use Rattle.call_line.proofs.OneByteLaws.{value_digit}
 use Rattle.call_line.proofs.NumeralLaws.{number_with, numeric_word, no_word, some_word, number_value, other_form, other_value, number_form, number_with_lem}
@@ -28,24 +29,24 @@ digit_small b d digit e =
     let value : d ≡ b - 48 = e ∙ digit_value b digit in
     omega (arith, digit_low b digit, digit_high b digit)
 
-was_large : (n d : ℕ) → TooLarge ≡ longer_of n d → leb (n * 10 + d) 18446744073709551615 ≡ false
+was_large : (n d : ℕ) → None ≡ longer_of n d → leb (n * 10 + d) 18446744073709551615 ≡ false
 was_large n d e = by (leb (n * 10 + d) 18446744073709551615) e
   where
-    by : (fits : Bool) → TooLarge ≡ (if fits then Is (n * 10 + d) else TooLarge) → fits ≡ false
+    by : (fits : Bool) → None ≡ (if fits then Some (n * 10 + d) else None) → fits ≡ false
     by true h = cc
     by false h = refl
 
-did_fit : (n d m : ℕ) → Is m ≡ longer_of n d → (leb (n * 10 + d) 18446744073709551615 ≡ true) × (m ≡ n * 10 + d)
+did_fit : (n d m : ℕ) → Some m ≡ longer_of n d → (leb (n * 10 + d) 18446744073709551615 ≡ true) × (m ≡ n * 10 + d)
 did_fit n d m e = by (leb (n * 10 + d) 18446744073709551615) e
   where
-    by : (fits : Bool) → Is m ≡ (if fits then Is (n * 10 + d) else TooLarge) → (fits ≡ true) × (m ≡ n * 10 + d)
+    by : (fits : Bool) → Some m ≡ (if fits then Some (n * 10 + d) else None) → (fits ≡ true) × (m ≡ n * 10 + d)
     by true h = (refl, cc)
     by false h = (cc, cc)
 
 -- ---- the word's first byte
 
 pub joins_first :
-    (k : Kept) (b form number : ℕ) → k.form ≡ 0 → form ≡ form_of (b ∷ []) → number ≡ value_of (b ∷ [])
+    (k : Kept) (b : ℕ) (form : Form) (number : ℕ) → k.form ≡ NoWord → form ≡ form_of (b ∷ []) → number ≡ value_of (b ∷ [])
     → Joins k b (record { place = k.place; letters = k.letters; arguments = k.arguments; form = form; number = number })
 joins_first k b form number none f v =
     record {
@@ -62,7 +63,7 @@ joins_first k b form number none f v =
 -- ---- a word that is no number with this byte
 
 spoils :
-    (k : Kept) (b : ℕ) (r : Kept) → r ≡ spoilt_of k → (k.form ≡ 0 → ⊥)
+    (k : Kept) (b : ℕ) (r : Kept) → r ≡ spoilt_of k → (k.form ≡ NoWord → ⊥)
     → ((w : List ℕ) → k.form ≡ form_of w → k.number ≡ value_of w → number_with (is_number w) (decimal_from 0 w) b ≡ false)
     → Joins k b r
 spoils k b r e some none =
@@ -80,17 +81,17 @@ no_number : (was : Bool) (n b : ℕ) → was ≡ false → number_with was n b �
 no_number was n b e = simp e
 
 -- what precedes is no number
-no_number_before : (k : Kept) (b : ℕ) (r : Kept) → r ≡ spoilt_of k → (k.form ≡ 0 → ⊥) → numeric k.form ≡ false → Joins k b r
+no_number_before : (k : Kept) (b : ℕ) (r : Kept) → r ≡ spoilt_of k → (k.form ≡ NoWord → ⊥) → numeric k.form ≡ false → Joins k b r
 no_number_before k b r e some other =
     spoils k b r e some
     (λ w is _. no_number (is_number w) (decimal_from 0 w) b (sym (numeric_word w) ∙ ap numeric (sym is) ∙ other))
 
 pub joins_other :
-    (k : Kept) (b : ℕ) (r : Kept) (test : Bool) → r ≡ spoilt_of k → (k.form ≡ 0 → ⊥) → test ≡ numeric k.form → not test ≡ true → Joins k b r
+    (k : Kept) (b : ℕ) (r : Kept) (test : Bool) → r ≡ spoilt_of k → (k.form ≡ NoWord → ⊥) → test ≡ numeric k.form → not test ≡ true → Joins k b r
 joins_other k b r test e some is other = no_number_before k b r e some (sym is ∙ not-true test other)
 
 -- the byte is no digit, or comes after a CR
-pub joins_late : (k : Kept) (b : ℕ) (r : Kept) → r ≡ spoilt_of k → (k.form ≡ 0 → ⊥) → LateDigit k b → Joins k b r
+pub joins_late : (k : Kept) (b : ℕ) (r : Kept) → r ≡ spoilt_of k → (k.form ≡ NoWord → ⊥) → LateDigit k b → Joins k b r
 joins_late k b r e some late = by (is_digit b) refl
   where
     no_digit : (was digit fits : Bool) → digit ≡ false → (if was then if digit then fits else false else false) ≡ false
@@ -108,7 +109,7 @@ joins_late k b r e some late = by (is_digit b) refl
 
 module _
     (k : Kept) (b d : ℕ) (test : Bool) (digit : is_digit b ≡ true) (is : test ≡ numeric k.form) (passed : not test ≡ false)
-    (some : k.form ≡ 0 → ⊥) (is-d : d ≡ value_of (b ∷ []))
+    (some : k.form ≡ NoWord → ⊥) (is-d : d ≡ value_of (b ∷ []))
   where
     number : numeric k.form ≡ true
     number = sym is ∙ not-false test passed
@@ -122,13 +123,13 @@ module _
         let last : b - 48 ≡ d = sym (is-d ∙ digit_value b digit) in
         simp (was, digit, n, last) e
 
-    pub joins_large : (r : Kept) (m : Number) → r ≡ spoilt_of k → m ≡ longer_of k.number d → m ≡ TooLarge → Joins k b r
+    pub joins_large : (r : Kept) (m : Option ℕ) → r ≡ spoilt_of k → m ≡ longer_of k.number d → m ≡ None → Joins k b r
     joins_large r m e longer large =
         spoils k b r e some (λ w form value. tested w false form value (was_large k.number d (sym large ∙ longer)))
 
     pub joins_number :
-        (n : ℕ) (m : Number) → m ≡ longer_of k.number d → m ≡ Is n
-        → Joins k b (record { place = k.place; letters = k.letters; arguments = k.arguments; form = 2; number = n })
+        (n : ℕ) (m : Option ℕ) → m ≡ longer_of k.number d → m ≡ Some n
+        → Joins k b (record { place = k.place; letters = k.letters; arguments = k.arguments; form = Number; number = n })
     joins_number n m longer is-n =
         let fit = did_fit k.number d n (sym is-n ∙ longer) in
         record {

@@ -11,9 +11,11 @@ use Rattle.std.specs.Prelude.{if◌then◌else◌}
 use Rattle.call_words.specs.Text.{bytes, same}
 use Rattle.call_words.specs.Names.{named, named_slot, named_words, named_second}
 use Rattle.call_words.specs.Shapes.{stands, fits, shape_of}
-use Rattle.call_words.specs.Asked.{bad, asks, understood}
+use Rattle.call_words.specs.Asked.{bad, asks_where, understood}
+use Rattle.std.specs.Prelude.{Option, Some, None}
+use Rattle.call_words.specs.declared.shapes.Argument.{Argument}
 use Rattle.call_words.specs.declared.names.Name.{Name}
-use Rattle.call_words.specs.declared.names.Name.TheVariants.{Bad, Lend, Word, Open, Push, SetAction, ClearAction, SetTimer, ClearTimer, PickNext, SimNetworkStack, Show, Words, LendSecond, WordSecond, WordsSecond, TakeSecond, Pack}
+use Rattle.call_words.specs.declared.names.Name.TheVariants.{Lend, Word, Open, Push, SetAction, ClearAction, SetTimer, ClearTimer, PickNext, SimNetworkStack, Show, Words, TakeSecond, Pack}
 use Rattle.call_line.specs.Held.{has_cr}
 
 -- ---- the first word
@@ -48,7 +50,7 @@ has_cr_lem (a ∷ w) (b ∷ t) cr none = by (eqb a b) refl (eqb a 13) refl (has_
         h c (sym first ∙ n)
 
 -- names are of 17 letters at most, and have no CR
-unlike_names : (w : List ℕ) → ((t : List ℕ) → length t ≤ 17 → has_cr t ≡ false → same w t ≡ false) → named w ≡ Bad
+unlike_names : (w : List ℕ) → ((t : List ℕ) → length t ≤ 17 → has_cr t ≡ false → same w t ≡ false) → named w ≡ None
 unfolding named named_slot named_words named_second
 unlike_names w unlike =
     simp (
@@ -71,36 +73,31 @@ unlike_names w unlike =
       unlike (bytes "take_second") (omega arith) refl,
     )
 
-pub named_long : (w : List ℕ) → 17 < length w → named w ≡ Bad
+pub named_long : (w : List ℕ) → 17 < length w → named w ≡ None
 named_long w long = unlike_names w (λ t short _. other_length w t (λ e. omega (arith, long, short, e)))
 
-pub named_cr : (w : List ℕ) → has_cr w ≡ true → named w ≡ Bad
+pub named_cr : (w : List ℕ) → has_cr w ≡ true → named w ≡ None
 named_cr w cr = unlike_names w (λ t _ none. has_cr_lem w t cr none)
 
-pub bad_name : (w f v : List ℕ) → named w ≡ Bad → understood w f v ≡ bad
-unfolding understood asks
-bad_name w f v e = ap (λ (n : Name). if fits f (shape_of n) then asks n f v else bad) e ∙ either (fits f [])
-  where
-    either : (x : Bool) → (if x then bad else bad) ≡ bad
-    either true = refl
-    either false = refl
+pub bad_name : (w : List ℕ) (a : List Argument) → named w ≡ None → understood w a ≡ bad
+unfolding understood
+bad_name w a e = ap (λ (n : Option Name). asks_where n a) e
 
 -- ---- the arguments
 
-other_count : (f s : List ℕ) → (length f ≡ length s → ⊥) → fits f s ≡ false
+other_count : (f : List Argument) (s : List ℕ) → (length f ≡ length s → ⊥) → fits f s ≡ false
 other_count [] [] other = absurd (other refl)
 other_count [] (b ∷ s) other = refl
 other_count (a ∷ f) [] other = refl
-other_count (a ∷ f) (b ∷ s) other = by (stands a b) (other_count f s (λ e. other (ap suc e)))
+other_count (a ∷ f) (b ∷ s) other = by (stands a.form b) (other_count f s (λ e. other (ap suc e)))
   where
     by : (x : Bool) → fits f s ≡ false → (if x then fits f s else false) ≡ false
     by true h = h
     by false h = refl
 
 short_shape : (n : Name) → length (shape_of n) ≤ 10
-short_shape Bad = omega arith
-short_shape Lend = omega arith
-short_shape Word = omega arith
+short_shape (Lend b) = omega arith
+short_shape (Word b) = omega arith
 short_shape Open = omega arith
 short_shape Push = omega arith
 short_shape SetAction = omega arith
@@ -110,13 +107,14 @@ short_shape ClearTimer = omega arith
 short_shape PickNext = omega arith
 short_shape SimNetworkStack = omega arith
 short_shape Show = omega arith
-short_shape Words = omega arith
-short_shape LendSecond = omega arith
-short_shape WordSecond = omega arith
-short_shape WordsSecond = omega arith
+short_shape (Words b) = omega arith
 short_shape TakeSecond = omega arith
 short_shape Pack = omega arith
 
-pub too_many : (w f v : List ℕ) → 10 < length f → understood w f v ≡ bad
+pub too_many : (w : List ℕ) (a : List Argument) → 10 < length a → understood w a ≡ bad
 unfolding understood
-too_many w f v many = simp (other_count f (shape_of (named w)) (λ e. omega (arith, many, e, short_shape (named w))))
+too_many w a many = by (named w)
+  where
+    by : (n : Option Name) → asks_where n a ≡ bad
+    by None = refl
+    by (Some n) = simp (other_count a (shape_of n) (λ e. omega (arith, many, e, short_shape n)))

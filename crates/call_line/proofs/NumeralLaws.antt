@@ -9,6 +9,8 @@ use borrow.Author.Tests.{leb-false, lt-leb, eqb-true}
 use Rattle.std.specs.Prelude.{if◌then◌else◌}
 use Rattle.call_words.specs.Text.{same}
 use Rattle.call_words.specs.Shapes.{numeric}
+use Rattle.call_words.specs.declared.shapes.Form.{Form}
+use Rattle.call_words.specs.declared.shapes.Form.TheVariants.{NoWord, Flag, Number, Side, Absent, Other}
 use Rattle.call_line.specs.Numerals.{is_digit, are_digits, decimal_from, is_number, is_flag, is_side, is_absent, form_of, value_of}
 
 -- ---- digits
@@ -69,7 +71,7 @@ one_byte c d u b = by (eqb c d) (never_empty u b)
     by true h = h
     by false h = refl
 
-form_long : (c : ℕ) (u : List ℕ) (b : ℕ) → form_of (c ∷ (u ++ (b ∷ []))) ≡ (if is_number (c ∷ (u ++ (b ∷ []))) then 2 else 5)
+form_long : (c : ℕ) (u : List ℕ) (b : ℕ) → form_of (c ∷ (u ++ (b ∷ []))) ≡ (if is_number (c ∷ (u ++ (b ∷ []))) then Number else Other)
 unfolding form_of
 form_long c u b =
     by (is_number (c ∷ (u ++ (b ∷ [])))) (one_byte c 48 u b) (one_byte c 49 u b) (one_byte c 99 u b) (one_byte c 115 u b) (one_byte c 45 u b)
@@ -77,10 +79,10 @@ form_long c u b =
     by :
         {zero one client server none : Bool} (number : Bool)
         → zero ≡ false → one ≡ false → client ≡ false → server ≡ false → none ≡ false
-        → ◌≡◌ {A = ℕ}
-        (if (if zero then true else one) then 1
-        else if number then 2 else if (if client then true else server) then 3 else if none then 4 else 5)
-        (if number then 2 else 5)
+        → ◌≡◌ {A = Form}
+        (if (if zero then true else one) then Flag
+        else if number then Number else if (if client then true else server) then Side else if none then Absent else Other)
+        (if number then Number else Other)
     by number z o c s n = simp (z, o, c, s, n)
 
 value_long :
@@ -103,7 +105,7 @@ flag_one c e = by (eqb c 48) (eqb c 49) refl refl e
 
 numeric_by :
     (flag number side none : Bool) → (flag ≡ true → number ≡ true)
-    → numeric (if flag then 1 else if number then 2 else if side then 3 else if none then 4 else 5) ≡ number
+    → numeric (if flag then Flag else if number then Number else if side then Side else if none then Absent else Other) ≡ number
 numeric_by true number side none h = sym (h refl)
 numeric_by false true side none h = refl
 numeric_by false false true none h = refl
@@ -126,19 +128,19 @@ numeric_word (c ∷ d ∷ u) =
 -- form 0 is that of no word
 form_by :
     (flag number side none : Bool)
-    → ◌≡◌ {A = ℕ} (if flag then 1 else if number then 2 else if side then 3 else if none then 4 else 5) 0 → ⊥
-form_by true number side none h = omega (arith, h)
-form_by false true side none h = omega (arith, h)
-form_by false false true none h = omega (arith, h)
-form_by false false false true h = omega (arith, h)
-form_by false false false false h = omega (arith, h)
+    → ◌≡◌ {A = Form} (if flag then Flag else if number then Number else if side then Side else if none then Absent else Other) NoWord → ⊥
+form_by true number side none h = cc
+form_by false true side none h = cc
+form_by false false true none h = cc
+form_by false false false true h = cc
+form_by false false false false h = cc
 
-pub no_word : (w : List ℕ) → form_of w ≡ 0 → w ≡ []
+pub no_word : (w : List ℕ) → form_of w ≡ NoWord → w ≡ []
 unfolding form_of
 no_word [] e = refl
 no_word (c ∷ u) e = absurd (form_by (is_flag (c ∷ u)) (is_number (c ∷ u)) (is_side (c ∷ u)) (is_absent (c ∷ u)) e)
 
-pub some_word : (w : List ℕ) → (form_of w ≡ 0 → ⊥) → w ≡ [] → ⊥
+pub some_word : (w : List ℕ) → (form_of w ≡ NoWord → ⊥) → w ≡ [] → ⊥
 unfolding form_of
 some_word w some e = some (ap form_of e)
 
@@ -154,9 +156,9 @@ number_value w e = simp e
 -- ---- one byte more
 
 -- of a word that is no number, or where the byte is no digit, or too large
-pub other_form : (w : List ℕ) (b : ℕ) → (w ≡ [] → ⊥) → number_with (is_number w) (decimal_from 0 w) b ≡ false → form_of (w ++ (b ∷ [])) ≡ 5
+pub other_form : (w : List ℕ) (b : ℕ) → (w ≡ [] → ⊥) → number_with (is_number w) (decimal_from 0 w) b ≡ false → form_of (w ++ (b ∷ [])) ≡ Other
 other_form [] b some e = absurd (some refl)
-other_form (c ∷ u) b some e = form_long c u b ∙ ap (λ (n : Bool). if n then 2 else 5) (number_snoc c u b ∙ e)
+other_form (c ∷ u) b some e = form_long c u b ∙ ap (λ (n : Bool). if n then Number else Other) (number_snoc c u b ∙ e)
 
 pub other_value : (w : List ℕ) (b : ℕ) → (w ≡ [] → ⊥) → number_with (is_number w) (decimal_from 0 w) b ≡ false → value_of (w ++ (b ∷ [])) ≡ 0
 other_value [] b some e = absurd (some refl)
@@ -164,9 +166,9 @@ other_value (c ∷ u) b some e =
     value_long c u b ∙ ap (λ (n : Bool). if n then decimal_from 0 (c ∷ u) * 10 + (b - 48) else 0) (number_snoc c u b ∙ e)
 
 -- of a number that a digit makes no number too large
-pub number_form : (w : List ℕ) (b : ℕ) → (w ≡ [] → ⊥) → number_with (is_number w) (decimal_from 0 w) b ≡ true → form_of (w ++ (b ∷ [])) ≡ 2
+pub number_form : (w : List ℕ) (b : ℕ) → (w ≡ [] → ⊥) → number_with (is_number w) (decimal_from 0 w) b ≡ true → form_of (w ++ (b ∷ [])) ≡ Number
 number_form [] b some e = absurd (some refl)
-number_form (c ∷ u) b some e = form_long c u b ∙ ap (λ (n : Bool). if n then 2 else 5) (number_snoc c u b ∙ e)
+number_form (c ∷ u) b some e = form_long c u b ∙ ap (λ (n : Bool). if n then Number else Other) (number_snoc c u b ∙ e)
 
 pub number_with_lem :
     (w : List ℕ) (b : ℕ) → (w ≡ [] → ⊥) → number_with (is_number w) (decimal_from 0 w) b ≡ true
@@ -180,7 +182,7 @@ never_with_cr : (was : Bool) (n : ℕ) → number_with was n 13 ≡ false
 never_with_cr true n = refl
 never_with_cr false n = refl
 
-pub cr_form : (w : List ℕ) → 5 ≡ form_of (w ++ (13 ∷ []))
+pub cr_form : (w : List ℕ) → Other ≡ form_of (w ++ (13 ∷ []))
 unfolding form_of
 cr_form [] = refl
 cr_form (c ∷ u) =

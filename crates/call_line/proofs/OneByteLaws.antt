@@ -7,32 +7,33 @@ use native.Mathlib.Omega.{arith}
 use lib.Dec.{eqb}
 use borrow.Author.Tests.{le-leb, lt-leb, ne_eqb, eqb-true, eqb-false}
 use Rattle.call_line.specs.Numerals.{form_of, value_of}
+use Rattle.call_words.specs.declared.shapes.Form.TheVariants.{Flag, Number, Side, Absent, Other}
 
 -- ---- its form
 
-pub form_absent : (b : ℕ) → b ≡ 45 → 4 ≡ form_of (b ∷ [])
+pub form_absent : (b : ℕ) → b ≡ 45 → Absent ≡ form_of (b ∷ [])
 unfolding form_of
 form_absent b e = ap (λ (x : ℕ). form_of (x ∷ [])) (sym e)
 
-pub form_side_client : (b : ℕ) → b ≡ 99 → 3 ≡ form_of (b ∷ [])
+pub form_side_client : (b : ℕ) → b ≡ 99 → Side ≡ form_of (b ∷ [])
 unfolding form_of
 form_side_client b e = ap (λ (x : ℕ). form_of (x ∷ [])) (sym e)
 
-pub form_side_server : (b : ℕ) → b ≡ 115 → 3 ≡ form_of (b ∷ [])
+pub form_side_server : (b : ℕ) → b ≡ 115 → Side ≡ form_of (b ∷ [])
 unfolding form_of
 form_side_server b e = ap (λ (x : ℕ). form_of (x ∷ [])) (sym e)
 
-pub form_flag : (b : ℕ) → 48 ≤ b → b ≤ 49 → 1 ≡ form_of (b ∷ [])
+pub form_flag : (b : ℕ) → 48 ≤ b → b ≤ 49 → Flag ≡ form_of (b ∷ [])
 unfolding form_of
 form_flag b low high = by (eqb b 48) refl
   where
-    by : (zero : Bool) → eqb b 48 ≡ zero → 1 ≡ form_of (b ∷ [])
+    by : (zero : Bool) → eqb b 48 ≡ zero → Flag ≡ form_of (b ∷ [])
     by true e = ap (λ (x : ℕ). form_of (x ∷ [])) (sym (eqb-true b 48 e))
     by false e =
         let one : 49 ≡ b = omega (arith, eqb-false b 48 e) in
         ap (λ (x : ℕ). form_of (x ∷ [])) one
 
-pub form_digit : (b : ℕ) → 49 < b → b ≤ 57 → 2 ≡ form_of (b ∷ [])
+pub form_digit : (b : ℕ) → 49 < b → b ≤ 57 → Number ≡ form_of (b ∷ [])
 unfolding form_of
 form_digit b low high =
     simp (
@@ -43,7 +44,7 @@ form_digit b low high =
       le-leb (0 * 10 + (b - 48)) 18446744073709551615 (omega arith),
     )
 
-pub form_low : (b : ℕ) → b < 48 → (b ≡ 45 → ⊥) → 5 ≡ form_of (b ∷ [])
+pub form_low : (b : ℕ) → b < 48 → (b ≡ 45 → ⊥) → Other ≡ form_of (b ∷ [])
 unfolding form_of
 form_low b low other =
     simp (
@@ -55,7 +56,7 @@ form_low b low other =
       ne_eqb b 45 other,
     )
 
-pub form_high : (b : ℕ) → 57 < b → (b ≡ 99 → ⊥) → (b ≡ 115 → ⊥) → 5 ≡ form_of (b ∷ [])
+pub form_high : (b : ℕ) → 57 < b → (b ≡ 99 → ⊥) → (b ≡ 115 → ⊥) → Other ≡ form_of (b ∷ [])
 unfolding form_of
 form_high b high client server =
     simp (

@@ -14,6 +14,10 @@ use Rattle.call_line.specs.Numerals.{form_of, value_of}
 use Rattle.call_line.specs.Held.{InFirst, InArguments, At, in_first, in_arguments, Sized}
 use Rattle.call_line.specs.Steps.{Ends, argument_stored, argument_left_out, place_parted, placed, Parts}
 use Rattle.call_line.specs.declared.line.Line.{Line as Kept}
+use Rattle.call_line.specs.declared.line.Place.{Place}
+use Rattle.call_line.specs.declared.line.Place.TheVariants.{FirstWord, Arguments}
+use Rattle.call_words.specs.declared.shapes.Argument.{Argument}
+use Rattle.call_words.specs.declared.shapes.Form.TheVariants.{NoWord}
 use Rattle.call_line.proofs.NumeralLaws.{no_word, some_word}
 use Rattle.call_line.proofs.SpeltLaws.{spelt_none, spelt_some}
 use Rattle.call_line.proofs.EndedLaws.{ended_kept, ended_dropped}
@@ -29,13 +33,13 @@ parted_some e (b ∷ w) some = refl
 
 -- ---- at another place
 
-pub first_placed : (l : Line) (k : Kept) (n : ℕ) (name : List ℕ) → InFirst l k name → InFirst l (placed n k) name
+pub first_placed : (l : Line) (k : Kept) (n : Place) (name : List ℕ) → InFirst l k name → InFirst l (placed n k) name
 first_placed l k n name i =
     record { ended = i.ended; spelt = i.spelt; call = i.call; arguments = i.arguments; form = i.form; number = i.number }
 
 pub arguments_placed :
-    (l : Line) (k : Kept) (n : ℕ) (name forms values : List ℕ) → InArguments l k name forms values → InArguments l (placed n k) name forms values
-arguments_placed l k n name forms values i =
+    (l : Line) (k : Kept) (n : Place) (name : List ℕ) (kept : List Argument) → InArguments l k name kept → InArguments l (placed n k) name kept
+arguments_placed l k n name kept i =
     record {
       first = i.first;
       arguments = i.arguments;
@@ -53,10 +57,10 @@ arguments_placed l k n name forms values i =
 -- no word yet
 first_none :
     (l : Line) (k : Kept) (name : List ℕ) → length name ≡ 24 → k.letters ≡ 0 → InFirst l k name
-    → InFirst (parted l.ended l.word) (placed 0 k) name
+    → InFirst (parted l.ended l.word) (placed FirstWord k) name
 first_none l k name len none i =
     let empty : l.word ≡ [] = spelt_none l.word name k.letters len i.spelt none in
-    subst (λ (m : Line). InFirst m (placed 0 k) name) (sym (parted_none l.ended l.word empty))
+    subst (λ (m : Line). InFirst m (placed FirstWord k) name) (sym (parted_none l.ended l.word empty))
     (record {
       ended = i.ended;
       spelt = inl (omega (arith, none), ap (λ (n : ℕ). take n name) none);
@@ -68,12 +72,12 @@ first_none l k name len none i =
 
 -- it ends
 first_some :
-    (l : Line) (k : Kept) (name forms values : List ℕ) → length name ≡ 24 → (k.letters ≡ 0 → ⊥) → InFirst l k name
-    → InArguments (parted l.ended l.word) (placed 1 k) name forms values
+    (l : Line) (k : Kept) (name : List ℕ) (kept : List Argument) → length name ≡ 24 → (k.letters ≡ 0 → ⊥) → InFirst l k name
+    → InArguments (parted l.ended l.word) (placed Arguments k) name kept
 unfolding form_of value_of
-first_some l k name forms values len some i =
+first_some l k name kept len some i =
     let more : l.word ≡ [] → ⊥ = spelt_some l.word name k.letters len i.spelt some in
-    subst (λ (m : Line). InArguments m (placed 1 k) name forms values) (sym (parted_some l.ended l.word more))
+    subst (λ (m : Line). InArguments m (placed Arguments k) name kept) (sym (parted_some l.ended l.word more))
     (record {
       first = l.word;
       arguments = [];
@@ -82,33 +86,30 @@ first_some l k name forms values len some i =
       some = some;
       call = i.call;
       held =
-          inl (
-            omega (arith, i.arguments),
-            (ap (λ (n : ℕ). take n forms) i.arguments, ap (λ (n : ℕ). take n values) i.arguments),
-          );
+          inl (omega (arith, i.arguments), ap (λ (n : ℕ). take n kept) i.arguments);
       form = i.form;
       number = i.number;
     })
 
 pub parts_first :
-    (k : Kept) (forms values : List ℕ) (place : ℕ) → (k.place ≡ 1 → ⊥) → place ≡ place_parted k.letters
-    → Parts k forms values (placed place k) forms values
-parts_first k forms values place other e =
-    subst (λ (n : ℕ). Parts k forms values (placed n k) forms values) (sym e)
+    (k : Kept) (kept : List Argument) (place : Place) → (k.place ≡ Arguments → ⊥) → place ≡ place_parted k.letters
+    → Parts k kept (placed place k) kept
+parts_first k kept place other e =
+    subst (λ (n : Place). Parts k kept (placed n k) kept) (sym e)
     (record { letters = refl; line = λ l name sized _ first. (sized, by l name sized (first other) (eqb k.letters 0) refl) })
   where
     by :
-        (l : Line) (name : List ℕ) → Sized name forms values → InFirst l k name
+        (l : Line) (name : List ℕ) → Sized name kept → InFirst l k name
         → (none : Bool) → eqb k.letters 0 ≡ none
-        → At (parted l.ended l.word) (placed (if none then 0 else 1) k) name forms values
+        → At (parted l.ended l.word) (placed (if none then FirstWord else Arguments) k) name kept
     by l name sized i true z = in_first refl (first_none l k name sized.letters (eqb-true k.letters 0 z) i)
-    by l name sized i false z = in_arguments refl (first_some l k name forms values sized.letters (eqb-false k.letters 0 z) i)
+    by l name sized i false z = in_arguments refl (first_some l k name kept sized.letters (eqb-false k.letters 0 z) i)
 
 -- ---- no argument is under way
 
 pub parts_none :
-    (k : Kept) (forms values : List ℕ) → k.place ≡ 1 → k.form ≡ 0 → Parts k forms values k forms values
-parts_none k forms values place none =
+    (k : Kept) (kept : List Argument) → k.place ≡ Arguments → k.form ≡ NoWord → Parts k kept k kept
+parts_none k kept place none =
     record {
       letters = refl;
       line = λ l name sized arguments _.
@@ -116,33 +117,32 @@ parts_none k forms values place none =
           let empty : l.word ≡ [] = no_word l.word (sym i.form ∙ none) in
           let same : l ≡ parted l.ended l.word =
           sym (parted_none l.ended l.word empty ∙ ap (λ (w : List ℕ). record { ended = l.ended; word = w }) (sym empty)) in
-          (sized, in_arguments place (subst (λ (m : Line). InArguments m k name forms values) same i));
+          (sized, in_arguments place (subst (λ (m : Line). InArguments m k name kept) same i));
     }
 
 -- ---- an argument ends
 
 ends_sized :
-    (k : Kept) (name forms values : List ℕ) (r : Kept) (forms' values' : List ℕ) → Ends k forms values r forms' values' → Sized name forms values
-    → Sized name forms' values'
-ends_sized k name forms values _ _ _ (argument_stored room) s =
+    (k : Kept) (name : List ℕ) (kept : List Argument) (r : Kept) (kept' : List Argument) → Ends k kept r kept' → Sized name kept
+    → Sized name kept'
+ends_sized k name kept _ _ (argument_stored room) s =
     record {
       letters = s.letters;
-      many_forms = length-set forms k.arguments k.form ∙ s.many_forms;
-      many_values = length-set values k.arguments k.number ∙ s.many_values;
+      many = length-set kept k.arguments (record { form = k.form; value = k.number }) ∙ s.many;
     }
-ends_sized k name forms values _ _ _ (argument_left_out full) s = s
+ends_sized k name kept _ _ (argument_left_out full) s = s
 
 ends_arguments :
-    (k : Kept) (l : Line) (name forms values : List ℕ) (r : Kept) (forms' values' : List ℕ)
-    → Ends k forms values r forms' values' → Sized name forms values → (k.form ≡ 0 → ⊥) → InArguments l k name forms values
-    → InArguments (parted l.ended l.word) r name forms' values'
+    (k : Kept) (l : Line) (name : List ℕ) (kept : List Argument) (r : Kept) (kept' : List Argument)
+    → Ends k kept r kept' → Sized name kept → (k.form ≡ NoWord → ⊥) → InArguments l k name kept
+    → InArguments (parted l.ended l.word) r name kept'
 unfolding form_of value_of
-ends_arguments k l name forms values _ _ _ (argument_stored room) s some i =
+ends_arguments k l name kept _ _ (argument_stored room) s some i =
     let more : l.word ≡ [] → ⊥ = some_word l.word (λ z. some (i.form ∙ z)) in
     let to = parted_some l.ended l.word more in
-    let after : Kept = record { place = k.place; letters = k.letters; arguments = k.arguments + 1; form = 0; number = 0 } in
+    let after : Kept = record { place = k.place; letters = k.letters; arguments = k.arguments + 1; form = NoWord; number = 0 } in
     subst
-    (λ (m : Line). InArguments m after name (set forms k.arguments k.form) (set values k.arguments k.number))
+    (λ (m : Line). InArguments m after name (set kept k.arguments (record { form = k.form; value = k.number })))
     (sym to)
     (record {
       first = i.first;
@@ -152,16 +152,16 @@ ends_arguments k l name forms values _ _ _ (argument_stored room) s some i =
       some = i.some;
       call = i.call;
       held =
-          ended_kept i.arguments l.word forms values k.arguments s.many_forms s.many_values k.form k.number room
+          ended_kept i.arguments l.word kept k.arguments s.many k.form k.number room
           i.form i.number i.held;
       form = refl;
       number = refl;
     })
-ends_arguments k l name forms values _ _ _ (argument_left_out full) s some i =
+ends_arguments k l name kept _ _ (argument_left_out full) s some i =
     let more : l.word ≡ [] → ⊥ = some_word l.word (λ z. some (i.form ∙ z)) in
     let to = parted_some l.ended l.word more in
-    let after : Kept = record { place = k.place; letters = k.letters; arguments = 13; form = 0; number = 0 } in
-    subst (λ (m : Line). InArguments m after name forms values) (sym to)
+    let after : Kept = record { place = k.place; letters = k.letters; arguments = 13; form = NoWord; number = 0 } in
+    subst (λ (m : Line). InArguments m after name kept) (sym to)
     (record {
       first = i.first;
       arguments = i.arguments ++ (l.word ∷ []);
@@ -169,28 +169,28 @@ ends_arguments k l name forms values _ _ _ (argument_left_out full) s some i =
       spelt = i.spelt;
       some = i.some;
       call = i.call;
-      held = ended_dropped i.arguments l.word forms values k.arguments s.many_forms s.many_values full i.held;
+      held = ended_dropped i.arguments l.word kept k.arguments s.many full i.held;
       form = refl;
       number = refl;
     })
 
-ends_place : (k : Kept) (forms values : List ℕ) (r : Kept) (forms' values' : List ℕ) → Ends k forms values r forms' values' → r.place ≡ k.place
-ends_place k forms values _ _ _ (argument_stored room) = refl
-ends_place k forms values _ _ _ (argument_left_out full) = refl
+ends_place : (k : Kept) (kept : List Argument) (r : Kept) (kept' : List Argument) → Ends k kept r kept' → r.place ≡ k.place
+ends_place k kept _ _ (argument_stored room) = refl
+ends_place k kept _ _ (argument_left_out full) = refl
 
-ends_letters : (k : Kept) (forms values : List ℕ) (r : Kept) (forms' values' : List ℕ) → Ends k forms values r forms' values' → r.letters ≡ k.letters
-ends_letters k forms values _ _ _ (argument_stored room) = refl
-ends_letters k forms values _ _ _ (argument_left_out full) = refl
+ends_letters : (k : Kept) (kept : List Argument) (r : Kept) (kept' : List Argument) → Ends k kept r kept' → r.letters ≡ k.letters
+ends_letters k kept _ _ (argument_stored room) = refl
+ends_letters k kept _ _ (argument_left_out full) = refl
 
 pub parts_argument :
-    (k : Kept) (forms values : List ℕ) (r : Kept) (forms' values' : List ℕ) → k.place ≡ 1 → (k.form ≡ 0 → ⊥)
-    → Ends k forms values r forms' values' → Parts k forms values r forms' values'
-parts_argument k forms values r forms' values' place some ends =
+    (k : Kept) (kept : List Argument) (r : Kept) (kept' : List Argument) → k.place ≡ Arguments → (k.form ≡ NoWord → ⊥)
+    → Ends k kept r kept' → Parts k kept r kept'
+parts_argument k kept r kept' place some ends =
     record {
-      letters = ends_letters k forms values r forms' values' ends;
+      letters = ends_letters k kept r kept' ends;
       line = λ l name sized arguments _. (
-        ends_sized k name forms values r forms' values' ends sized,
-        in_arguments (ends_place k forms values r forms' values' ends ∙ place)
-            (ends_arguments k l name forms values r forms' values' ends sized some (arguments place)),
+        ends_sized k name kept r kept' ends sized,
+        in_arguments (ends_place k kept r kept' ends ∙ place)
+            (ends_arguments k l name kept r kept' ends sized some (arguments place)),
       );
     }

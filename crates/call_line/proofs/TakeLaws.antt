@@ -12,34 +12,38 @@ use Rattle.call_line.specs.Words.{Line, is_space, joined}
 use Rattle.call_line.specs.Held.{InFirst, InArguments, Spelt, Ended, is_comment_line, At, in_first, in_arguments, Sized}
 use Rattle.call_line.specs.Steps.{Joins, place_after, Spells, letter_stored, letter_left_out, Parts, Now, Takes, in_comment, in_line}
 use Rattle.call_line.specs.declared.line.Line.{Line as Kept}
+use Rattle.call_line.specs.declared.line.Place.{Place}
+use Rattle.call_line.specs.declared.line.Place.TheVariants.{FirstWord, Arguments, Comment}
+use Rattle.call_words.specs.declared.shapes.Argument.{Argument}
 use Rattle.call_line.proofs.WordLaws.{joined_space, joined_byte, comment_stays, comment_first}
 use Rattle.call_line.proofs.SpeltLaws.{spelt_none, spelt_some, spelt_kept, spelt_dropped}
 
-pub at_arguments : (l : Line) (k : Kept) (name forms values : List ℕ) → At l k name forms values → k.place ≡ 1 → InArguments l k name forms values
-at_arguments l k name forms values (in_first place i) e = absurd (omega (arith, place, e))
-at_arguments l k name forms values (in_arguments place i) e = i
+pub at_arguments : (l : Line) (k : Kept) (name : List ℕ) (kept : List Argument) → At l k name kept → k.place ≡ Arguments → InArguments l k name kept
+at_arguments l k name kept (in_first place i) e = cc
+at_arguments l k name kept (in_arguments place i) e = i
 
-at_first : (l : Line) (k : Kept) (name forms values : List ℕ) → At l k name forms values → (k.place ≡ 1 → ⊥) → InFirst l k name
-at_first l k name forms values (in_first place i) other = i
-at_first l k name forms values (in_arguments place i) other = absurd (other place)
+at_first : (l : Line) (k : Kept) (name : List ℕ) (kept : List Argument) → At l k name kept → (k.place ≡ Arguments → ⊥) → InFirst l k name
+at_first l k name kept (in_first place i) other = i
+at_first l k name kept (in_arguments place i) other = absurd (other place)
 
 -- ---- a space
 
 pub takes_space :
-    (k : Kept) (name forms values : List ℕ) (b : ℕ) (r : Kept) (forms' values' : List ℕ) (test : Bool) → test ≡ is_space b → test ≡ true
-    → Parts k forms values r forms' values'
-    → Takes k name forms values b r name forms' values'
-takes_space k name forms values b r forms' values' test is space parts = λ l sized here.
-    let after = parts.line l name sized (at_arguments l k name forms values here) (at_first l k name forms values here) in
-    (after.0, subst (λ (m : Line). Now m r name forms' values') (sym (joined_space l b (sym is ∙ space))) (in_line after.1))
+    (k : Kept) (name : List ℕ) (kept : List Argument) (b : ℕ) (r : Kept) (name' : List ℕ) (kept' : List Argument) (test : Bool)
+    → test ≡ is_space b → test ≡ true → Parts k kept r kept' → name' ≡ name
+    → Takes k name kept b r name' kept'
+takes_space k name kept b r name' kept' test is space parts stays = λ l sized here.
+    let after = parts.line l name sized (at_arguments l k name kept here) (at_first l k name kept here) in
+    subst (λ (n : List ℕ). Sized n kept' × Now (joined l b) r n kept') (sym stays)
+    (after.0, subst (λ (m : Line). Now m r name kept') (sym (joined_space l b (sym is ∙ space))) (in_line after.1))
 
 -- ---- a byte of an argument
 
 pub joined_arguments :
-    (l : Line) (k : Kept) (b : ℕ) (r : Kept) (name forms values : List ℕ) → is_space b ≡ false → Joins k b r → InArguments l k name forms values
-    → InArguments (joined l b) r name forms values
-joined_arguments l k b r name forms values byte joins i =
-    subst (λ (m : Line). InArguments m r name forms values) (sym (joined_byte l b byte))
+    (l : Line) (k : Kept) (b : ℕ) (r : Kept) (name : List ℕ) (kept : List Argument) → is_space b ≡ false → Joins k b r → InArguments l k name kept
+    → InArguments (joined l b) r name kept
+joined_arguments l k b r name kept byte joins i =
+    subst (λ (m : Line). InArguments m r name kept) (sym (joined_byte l b byte))
     (record {
       first = i.first;
       arguments = i.arguments;
@@ -47,46 +51,46 @@ joined_arguments l k b r name forms values byte joins i =
       spelt = subst (λ (n : ℕ). Spelt i.first name n) (sym joins.letters) i.spelt;
       some = λ e. i.some (sym joins.letters ∙ e);
       call = i.call;
-      held = subst (λ (n : ℕ). Ended i.arguments forms values n) (sym joins.arguments) i.held;
+      held = subst (λ (n : ℕ). Ended i.arguments kept n) (sym joins.arguments) i.held;
       form = (joins.word l.word i.form i.number).0;
       number = (joins.word l.word i.form i.number).1;
     })
 
 pub takes_byte :
-    (k : Kept) (name forms values : List ℕ) (b : ℕ) (r : Kept) (test : Bool) → test ≡ is_space b → test ≡ false → k.place ≡ 1 → Joins k b r
-    → Takes k name forms values b r name forms values
-takes_byte k name forms values b r test is byte place joins = λ l sized here. (
+    (k : Kept) (name : List ℕ) (kept : List Argument) (b : ℕ) (r : Kept) (test : Bool) → test ≡ is_space b → test ≡ false → k.place ≡ Arguments → Joins k b r
+    → Takes k name kept b r name kept
+takes_byte k name kept b r test is byte place joins = λ l sized here. (
   sized,
   in_line
       (in_arguments (joins.place ∙ place)
-      (joined_arguments l k b r name forms values (sym is ∙ byte) joins (at_arguments l k name forms values here place))),
+      (joined_arguments l k b r name kept (sym is ∙ byte) joins (at_arguments l k name kept here place))),
 )
 
 -- ---- a letter of the first word
 
 pub spells_kept :
-    (k : Kept) (b place : ℕ) (name : List ℕ) → k.letters < 24 → place ≡ place_after k.letters b
+    (k : Kept) (b : ℕ) (place : Place) (name : List ℕ) → k.letters < 24 → place ≡ place_after k.letters b
     → Spells k b name
     (record { place = place; letters = k.letters + 1; arguments = k.arguments; form = k.form; number = k.number })
     (set name k.letters b)
 spells_kept k b place name room is =
     subst
-    (λ (n : ℕ). Spells k b name (record { place = n; letters = k.letters + 1; arguments = k.arguments; form = k.form; number = k.number }) (set name k.letters b))
+    (λ (n : Place). Spells k b name (record { place = n; letters = k.letters + 1; arguments = k.arguments; form = k.form; number = k.number }) (set name k.letters b))
     (sym is)
     (letter_stored room)
 
-module _ (l : Line) (k : Kept) (b : ℕ) (name forms values : List ℕ) (len : length name ≡ 24) (i : InFirst l k name) where
+module _ (l : Line) (k : Kept) (b : ℕ) (name : List ℕ) (kept : List Argument) (len : length name ≡ 24) (i : InFirst l k name) where
   letter_kept :
       (early : Bool) → ltb 0 k.letters ≡ early → (mark : Bool) → eqb b 35 ≡ mark → k.letters < 24
       → Now (record { ended = l.ended; word = l.word ++ (b ∷ []) })
       (record {
-        place = if early then 0 else if mark then 2 else 0;
+        place = if early then FirstWord else if mark then Comment else FirstWord;
         letters = k.letters + 1;
         arguments = k.arguments;
         form = k.form;
         number = k.number;
       })
-      (set name k.letters b) forms values
+      (set name k.letters b) kept
   letter_kept true e mark m room =
       let more : l.word ≡ [] → ⊥ = spelt_some l.word name k.letters len i.spelt (λ z. omega (arith, z, ltb-true 0 k.letters e)) in
       in_line
@@ -117,9 +121,9 @@ module _ (l : Line) (k : Kept) (b : ℕ) (name forms values : List ℕ) (len : l
       }))
 
   letter_dropped :
-      24 ≤ k.letters → k.place ≡ 0
+      24 ≤ k.letters → k.place ≡ FirstWord
       → At (record { ended = l.ended; word = l.word ++ (b ∷ []) })
-      (record { place = k.place; letters = 25; arguments = k.arguments; form = k.form; number = k.number }) name forms values
+      (record { place = k.place; letters = 25; arguments = k.arguments; form = k.form; number = k.number }) name kept
   letter_dropped full place =
       let more : l.word ≡ [] → ⊥ = spelt_some l.word name k.letters len i.spelt (λ z. omega (arith, z, full)) in
       in_first place
@@ -133,28 +137,28 @@ module _ (l : Line) (k : Kept) (b : ℕ) (name forms values : List ℕ) (len : l
       })
 
 letter :
-    (l : Line) (k : Kept) (b : ℕ) (name forms values : List ℕ) (r : Kept) (name' : List ℕ) → Spells k b name r name' → Sized name forms values
-    → InFirst l k name → k.place ≡ 0
-    → Sized name' forms values × Now (record { ended = l.ended; word = l.word ++ (b ∷ []) }) r name' forms values
-letter l k b name forms values _ _ (letter_stored room) s i place = (
+    (l : Line) (k : Kept) (b : ℕ) (name : List ℕ) (kept : List Argument) (r : Kept) (name' : List ℕ) → Spells k b name r name' → Sized name kept
+    → InFirst l k name → k.place ≡ FirstWord
+    → Sized name' kept × Now (record { ended = l.ended; word = l.word ++ (b ∷ []) }) r name' kept
+letter l k b name kept _ _ (letter_stored room) s i place = (
   record {
     letters = length-set name k.letters b ∙ s.letters;
-    many_forms = s.many_forms;
-    many_values = s.many_values;
+    many = s.many;
   },
-  letter_kept l k b name forms values s.letters i (ltb 0 k.letters) refl (eqb b 35) refl room,
+  letter_kept l k b name kept s.letters i (ltb 0 k.letters) refl (eqb b 35) refl room,
 )
-letter l k b name forms values _ _ (letter_left_out full) s i place = (s, in_line (letter_dropped l k b name forms values s.letters i full place))
+letter l k b name kept _ _ (letter_left_out full) s i place = (s, in_line (letter_dropped l k b name kept s.letters i full place))
 
-at_place : (l : Line) (k : Kept) (name forms values : List ℕ) → At l k name forms values → (k.place ≡ 1 → ⊥) → k.place ≡ 0
-at_place l k name forms values (in_first place i) other = place
-at_place l k name forms values (in_arguments place i) other = absurd (other place)
+at_place : (l : Line) (k : Kept) (name : List ℕ) (kept : List Argument) → At l k name kept → (k.place ≡ Arguments → ⊥) → k.place ≡ FirstWord
+at_place l k name kept (in_first place i) other = place
+at_place l k name kept (in_arguments place i) other = absurd (other place)
 
 pub takes_letter :
-    (k : Kept) (name forms values : List ℕ) (b : ℕ) (r : Kept) (name' : List ℕ) (test : Bool) → test ≡ is_space b → test ≡ false
-    → (k.place ≡ 1 → ⊥) → Spells k b name r name'
-    → Takes k name forms values b r name' forms values
-takes_letter k name forms values b r name' test is byte other spells = λ l sized here.
+    (k : Kept) (name : List ℕ) (kept : List Argument) (b : ℕ) (r : Kept) (name' : List ℕ) (kept' : List Argument) (test : Bool)
+    → test ≡ is_space b → test ≡ false → (k.place ≡ Arguments → ⊥) → Spells k b name r name' → kept' ≡ kept
+    → Takes k name kept b r name' kept'
+takes_letter k name kept b r name' kept' test is byte other spells stays = λ l sized here.
     let after =
-    letter l k b name forms values r name' spells sized (at_first l k name forms values here other) (at_place l k name forms values here other) in
-    (after.0, subst (λ (m : Line). Now m r name' forms values) (sym (joined_byte l b (sym is ∙ byte))) after.1)
+    letter l k b name kept r name' spells sized (at_first l k name kept here other) (at_place l k name kept here other) in
+    subst (λ (a : List Argument). Sized name' a × Now (joined l b) r name' a) (sym stays)
+    (after.0, subst (λ (m : Line). Now m r name' kept) (sym (joined_byte l b (sym is ∙ byte))) after.1)

@@ -8,6 +8,8 @@ use borrow.Author.Tests.{ne_eqb}
 use Rattle.std.specs.Prelude.{if◌then◌else◌}
 use Rattle.call_line.specs.Words.{Line, is_space, parted, joined, read_from, read, without_cr}
 use Rattle.call_line.specs.Lines.{is_comment}
+use Rattle.call_line.specs.Numerals.{argument_of}
+use Rattle.call_words.specs.declared.shapes.Argument.{Argument}
 use Rattle.call_line.specs.Held.{has_cr, is_comment_line}
 
 -- ---- reading
@@ -92,6 +94,6 @@ comment_joined l b c = by (parted l.ended l.word) (record { ended = l.ended; wor
 
 -- ---- lists
 
-pub map_snoc : (f : List ℕ → ℕ) (l : List (List ℕ)) (w : List ℕ) → map f (l ++ (w ∷ [])) ≡ map f l ++ (f w ∷ [])
-map_snoc f [] w = refl
-map_snoc f (v ∷ l) w = ap (λ (t : List ℕ). f v ∷ t) (map_snoc f l w)
+pub map_snoc : (l : List (List ℕ)) (w : List ℕ) → map argument_of (l ++ (w ∷ [])) ≡ map argument_of l ++ (argument_of w ∷ [])
+map_snoc [] w = refl
+map_snoc (v ∷ l) w = ap (λ (t : List Argument). argument_of v ∷ t) (map_snoc l w)

@@ -1,6 +1,9 @@
 -- What an argument is, and its value, in the sentences of docs/CALLS.md. Assumes nothing.
 use Rattle.std.specs.Prelude.{ℕ, ◌+◌, ◌*◌, ◌-◌, Bool, true, false, List, [], ◌∷◌, leb, if◌then◌else◌}
 use Rattle.call_words.specs.Text.{bytes, same}
+use Rattle.call_words.specs.declared.shapes.Argument.{Argument}
+use Rattle.call_words.specs.declared.shapes.Form.{Form}
+use Rattle.call_words.specs.declared.shapes.Form.TheVariants.{NoWord, Flag, Number, Side, Absent, Other}
 
 -- "the digits 0 to 9": the bytes from 48 to 57
 abbrev pub is_digit : ℕ → Bool
@@ -30,13 +33,17 @@ is_side w = if same w (bytes "c") then true else same w (bytes "s")
 abbrev pub is_absent : List ℕ → Bool
 is_absent w = same w (bytes "-")
 
--- the forms of a word, by number: 0 where there is none, 1 a flag, 2 another number, 3 a side, 4 absent, 5 none of these
-unfoldable pub form_of : List ℕ → ℕ
-form_of [] = 0
+-- the form of a word
+unfoldable pub form_of : List ℕ → Form
+form_of [] = NoWord
 form_of (b ∷ w) =
-    if is_flag (b ∷ w) then 1
-    else if is_number (b ∷ w) then 2 else if is_side (b ∷ w) then 3 else if is_absent (b ∷ w) then 4 else 5
+    if is_flag (b ∷ w) then Flag
+    else if is_number (b ∷ w) then Number else if is_side (b ∷ w) then Side else if is_absent (b ∷ w) then Absent else Other
 
 -- the value of a word: a number's, 1 for the client, else 0
 unfoldable pub value_of : List ℕ → ℕ
 value_of w = if is_number w then decimal_from 0 w else if same w (bytes "c") then 1 else 0
+
+-- what a word is as an argument
+abbrev pub argument_of : List ℕ → Argument
+argument_of w = record { form = form_of w; value = value_of w }

@@ -1,132 +1,132 @@
-// A line, byte by byte: of its first word the letters are kept in `name`; of each argument `forms` keeps what it is and `values` its number.
-ghost use Rattle.std.specs.Prelude.{◌≡◌, true, false, ◌≤◌, ◌<◌, [], ◌∷◌};
+// A line, byte by byte: of its first word the letters are kept, of each argument what it is and its number.
+ghost use Rattle.std.specs.Prelude.{◌≡◌, true, false, [], ◌∷◌, take};
+ghost use Rattle.call_words.specs.Asked.{asked_or_bad, understood as understood_as};
 ghost use Rattle.call_line.specs.Numerals.{is_digit, form_of, value_of};
 ghost use Rattle.call_line.specs.Words.{is_space};
-ghost use Rattle.call_words.specs.Asked.{asks_of};
-ghost use Rattle.call_line.specs.Held.{digit_of, Reads, ReadsDigit, Asks-for, start_line};
+ghost use Rattle.call_line.specs.Lines.{asks_of_line};
+ghost use Rattle.call_line.specs.declared.line.Place.TheVariants.{Arguments};
+ghost use Rattle.call_line.specs.Held.{digit_of, Holds, Reads, ReadsDigit, AsksFor, start_line};
 ghost use Rattle.call_line.specs.Steps.{longer_of, spoilt_of, Joins, LateDigit, Ends, place_after, Spells, place_parted, PastCR, AtCR, WithoutCR, Parts, Takes, passes_over};
 
-use call_words::asked::Asked;
-use call_words::{asked, shapes};
+use call_words::asked;
+use call_words::asked::{Asked, BadLine};
+use call_words::shapes::{Argument, Form};
 
 // Where in the line we are: at or before its first word, after it, in a comment; and the first two after a CR, which
 // belongs to a word unless the line ends there.
-const FIRST_WORD: u64 = 0;
-
-const ARGUMENT: u64 = 1;
-
-const COMMENT: u64 = 2;
-
-const FIRST_WORD_CR: u64 = 3;
-
-const ARGUMENT_CR: u64 = 4;
+#[derive(Clone, Copy, PartialEq, Eq)]
+pub enum Place {
+    FirstWord,
+    Arguments,
+    Comment,
+    FirstWordCr,
+    ArgumentsCr,
+}
 
 // The letters of a first word that are kept, and the arguments.
 const LETTERS: usize = 24;
 
 const ARGUMENTS: usize = 12;
 
-// What is known of the line so far. Whole words only: a struct of these stays in registers from byte to byte.
+// What is known of the line so far. It is changed in place: with copies of the whole a list was read in three times the time.
 #[derive(Clone, Copy)]
 pub struct Line {
-    pub place: u64,
+    pub place: Place,
     // letters of the first word, one more than are kept where it is longer
     pub letters: usize,
     // arguments that have ended, one more than are kept where there are more
     pub arguments: usize,
     // the argument under way
-    pub form: u64,
+    pub form: Form,
     pub number: u64,
 }
 
-// A number, or one above 2^64 - 1.
+// The words of the line that are kept: as many letters and arguments as `Line` counts.
 #[derive(Clone, Copy)]
-enum Number {
-    Is(u64),
-    TooLarge,
+pub struct Words {
+    pub name: [u8; 24],
+    pub arguments: [Argument; 12],
 }
 
-// The number with one digit more, near the limit.
-fn longer_at_limit(number: u64, digit: u64) -> Number
-    requires { 1844674407370955160 < number }
-    ensures { result ≡ longer_of number digit }
-{
-    if number == 1844674407370955161 {
-        if digit <= 5 {
-            return Number::Is(18446744073709551610 + digit);
+impl Words {
+    // No word yet.
+    #[tactic(auto, using(crate::proofs::ReadLaws::holds_start))]
+    pub fn new() -> Self
+        ensures { Holds [] start_line result.name result.arguments }
+    {
+        let argument = Argument {
+            form: Form::NoWord,
+            value: 0,
+        };
+        Self {
+            name: [0; 24],
+            arguments: [argument; 12],
         }
     }
-    Number::TooLarge
 }
 
-// The number with one digit more.
-fn longer(number: u64, digit: u64) -> Number
-    requires { digit ≤ 9 }
+// The number with one digit more; none above 2^64 - 1.
+fn longer(number: u64, digit: u64) -> Option<u64>
     ensures { result ≡ longer_of number digit }
 {
-    if number > 1844674407370955160 {
-        return longer_at_limit(number, digit);
-    }
-    Number::Is(number * 10 + digit)
+    number.checked_mul(10)?.checked_add(digit)
 }
 
 fn is_digit(b: u8) -> bool
     ensures { result ≡ is_digit b }
 {
-    if b < b'0' {
-        return false;
-    }
-    b <= b'9'
+    b.is_ascii_digit()
 }
 
 fn is_space(b: u8) -> bool
     ensures { result ≡ is_space b }
 {
-    if b == b' ' {
-        return true;
-    }
-    b == b'\t'
+    matches!(b, b' ' | b'\t')
 }
 
 // What a word of one byte is.
-fn first_form(b: u8) -> u64
+#[tactic(auto, using(crate::proofs::OneByteLaws::form_absent, crate::proofs::OneByteLaws::form_flag, crate::proofs::OneByteLaws::form_digit, crate::proofs::OneByteLaws::form_side_client, crate::proofs::OneByteLaws::form_side_server, crate::proofs::OneByteLaws::form_low, crate::proofs::OneByteLaws::form_high))]
+fn first_form(b: u8) -> Form
     ensures { result ≡ form_of (b ∷ []) }
 {
-    if b == b'-' {
-        return shapes::ABSENT;
+    match b {
+        b'-' => Form::Absent,
+        b'0' | b'1' => Form::Flag,
+        b'2'..=b'9' => Form::Number,
+        b'c' | b's' => Form::Side,
+        _ => Form::Other,
     }
-    if b < b'0' {
-        return shapes::OTHER;
-    }
-    if b <= b'1' {
-        return shapes::FLAG;
-    }
-    if b <= b'9' {
-        return shapes::NUMBER;
-    }
-    if b == b'c' {
-        return shapes::SIDE;
-    }
-    if b == b's' {
-        return shapes::SIDE;
-    }
-    shapes::OTHER
 }
 
 // The number of a word of one byte: a digit's, 1 for the client.
+#[tactic(auto, using(crate::proofs::OneByteLaws::value_client, crate::proofs::OneByteLaws::value_low, crate::proofs::OneByteLaws::value_high, crate::proofs::OneByteLaws::value_digit))]
 fn first_number(b: u8) -> u64
     ensures { result ≡ value_of (b ∷ []) }
 {
-    if b == b'c' {
-        return 1;
+    match b {
+        b'0'..=b'9' => u64::from(b - b'0'),
+        b'c' => 1,
+        _ => 0,
     }
-    if b < b'0' {
-        return 0;
+}
+
+fn place_after(at: usize, b: u8) -> Place
+    ensures { result ≡ place_after at b }
+{
+    if at == 0 && b == b'#' {
+        return Place::Comment;
     }
-    if b > b'9' {
-        return 0;
+    Place::FirstWord
+}
+
+// After a space that follows so many letters.
+fn place_parted(letters: usize) -> Place
+    ensures { result ≡ place_parted letters }
+{
+    if letters == 0 {
+        return Place::FirstWord;
     }
-    (b - 48) as u64
+    Place::Arguments
 }
 
 impl Line {
@@ -135,249 +135,225 @@ impl Line {
         ensures { result ≡ start_line }
     {
         Self {
-            place: FIRST_WORD,
+            place: Place::FirstWord,
             letters: 0,
             arguments: 0,
-            form: shapes::NO_WORD,
+            form: Form::NoWord,
             number: 0,
         }
     }
 
     // The word under way can be no argument.
-    fn spoilt(mut self) -> Self
-        ensures { result ≡ spoilt_of self }
+    fn spoil(&mut self)
+        ensures { self.new ≡ spoilt_of self.old }
     {
-        self.form = shapes::OTHER;
-        self.number = 0;
-        self
+        self.form = Form::Other;
+        self.number = 0; // of no number
     }
 
     // A CR that no line's end follows belongs to a word, which is then neither a call nor an argument.
-    fn past_cr(mut self) -> Self
-        ensures { PastCR self result }
+    fn past_cr(&mut self)
+        ensures { PastCR self.old self.new }
     {
-        if self.place == ARGUMENT_CR {
-            self.place = ARGUMENT;
-            return self.spoilt();
+        match self.place {
+            Place::ArgumentsCr => {
+                self.place = Place::Arguments;
+                self.spoil();
+            },
+            Place::FirstWordCr => {
+                self.place = Place::FirstWord;
+                self.letters = LETTERS + 1;
+            },
+            _ => {},
         }
-        if self.place == FIRST_WORD_CR {
-            self.place = FIRST_WORD;
-            self.letters = LETTERS + 1;
-            return self;
-        }
-        self
     }
 
     // A CR, after past_cr.
-    fn at_cr(mut self) -> Self
-        ensures { AtCR self result }
+    fn at_cr(&mut self)
+        ensures { AtCR self.old self.new }
     {
-        if self.place == ARGUMENT {
-            self.place = ARGUMENT_CR;
-            return self;
+        match self.place {
+            Place::Arguments => self.place = Place::ArgumentsCr,
+            _ => self.place = Place::FirstWordCr,
         }
-        self.place = FIRST_WORD_CR;
-        self
     }
 
     // The end of the line: a CR before it is passed over.
-    fn without_cr(mut self) -> Self
-        ensures { WithoutCR self result }
+    fn without_cr(&mut self)
+        ensures { WithoutCR self.old self.new }
     {
-        if self.place != ARGUMENT_CR {
-            return self;
+        if let Place::ArgumentsCr = self.place {
+            self.place = Place::Arguments;
         }
-        self.place = ARGUMENT;
-        self
     }
 
     // A digit in an argument.
-    fn with_digit(mut self, b: u8) -> Self
+    fn add_digit(&mut self, b: u8)
         requires { is_digit b ≡ true }
-        ensures { Joins self b result }
+        ensures { Joins self.old b self.new }
     {
-        if self.form == shapes::NO_WORD {
+        if let Form::NoWord = self.form {
             self.form = first_form(b);
             self.number = first_number(b);
-            return self;
+            return;
         }
-        if !shapes::numeric(self.form) {
-            return self.spoilt();
+        if !self.form.numeric() {
+            return self.spoil();
         }
-        let Number::Is(n) = longer(self.number, first_number(b)) else {
-            return self.spoilt();
+        let Some(n) = longer(self.number, first_number(b)) else {
+            return self.spoil();
         };
         self.number = n;
-        self.form = shapes::NUMBER;
-        self
+        self.form = Form::Number;
     }
 
     // A byte in an argument; a digit only after a CR, where the word is spoilt already.
-    fn with_byte(mut self, b: u8) -> Self
-        requires { LateDigit self b }
-        ensures { Joins self b result }
+    fn add_byte(&mut self, b: u8)
+        requires { LateDigit self.old b }
+        ensures { Joins self.old b self.new }
     {
-        if self.form != shapes::NO_WORD {
-            return self.spoilt();
-        }
+        let Form::NoWord = self.form else {
+            return self.spoil();
+        };
         self.form = first_form(b);
         self.number = first_number(b);
-        self
     }
-}
 
-// One byte more of the first word. A line whose first word begins with `#` is passed over.
-fn with_letter(mut l: Line, b: u8, name: &mut [u8; 24]) -> Line
-    ensures { Spells l b name.old result name.new }
-{
-    let at = l.letters;
-    if at >= LETTERS {
-        l.letters = LETTERS + 1;
-        return l;
+    // One byte more of the first word. A line whose first word begins with `#` is passed over.
+    fn add_letter(&mut self, b: u8, words: &mut Words)
+        ensures spells { Spells self.old b words.old.name self.new words.new.name }
+        ensures arguments { words.new.arguments ≡ words.old.arguments }
+    {
+        let at = self.letters;
+        if at >= LETTERS {
+            self.letters = LETTERS + 1; // and no further
+            return;
+        }
+        words.name[at] = b;
+        self.letters = at + 1;
+        self.place = place_after(at, b);
     }
-    name[at] = b;
-    l.letters = at + 1;
-    l.place = place_after(at, b);
-    l
-}
 
-fn place_after(at: usize, b: u8) -> u64
-    ensures { result ≡ place_after at b }
-{
-    if at > 0 {
-        return FIRST_WORD;
+    // An argument ends here.
+    fn end_argument(&mut self, words: &mut Words)
+        ensures ends { Ends self.old words.old.arguments self.new words.new.arguments }
+        ensures name { words.new.name ≡ words.old.name }
+    {
+        let at = self.arguments;
+        let argument = Argument {
+            form: self.form,
+            value: self.number,
+        };
+        self.form = Form::NoWord;
+        self.number = 0; // of no word
+        if at >= ARGUMENTS {
+            self.arguments = ARGUMENTS + 1;
+            return;
+        }
+        words.arguments[at] = argument;
+        self.arguments = at + 1;
     }
-    if b == b'#' {
-        return COMMENT;
-    }
-    FIRST_WORD
-}
 
-// An argument ends here.
-fn with_argument(mut l: Line, forms: &mut [u64; 12], values: &mut [u64; 12]) -> Line
-    ensures { Ends l forms.old values.old result forms.new values.new }
-{
-    let at = l.arguments;
-    let form = l.form;
-    let number = l.number;
-    l.form = shapes::NO_WORD;
-    l.number = 0;
-    if at >= ARGUMENTS {
-        l.arguments = ARGUMENTS + 1;
-        return l;
-    }
-    forms[at] = form;
-    values[at] = number;
-    l.arguments = at + 1;
-    l
-}
-
-// After a space that follows so many letters.
-fn place_parted(letters: usize) -> u64
-    ensures { result ≡ place_parted letters }
-{
-    if letters == 0 {
-        return FIRST_WORD;
-    }
-    ARGUMENT
-}
-
-// A space or the end of the line: the word under way ends, if there is one.
-fn parted(mut l: Line, forms: &mut [u64; 12], values: &mut [u64; 12]) -> Line
-    ensures { Parts l forms.old values.old result forms.new values.new }
-{
-    if l.place != ARGUMENT {
-        l.place = place_parted(l.letters);
-        return l;
-    }
-    if l.form == shapes::NO_WORD {
-        return l;
-    }
-    with_argument(l, forms, values)
-}
-
-// A byte that is no CR and ends no line.
-fn taken(l: Line, b: u8, name: &mut [u8; 24], forms: &mut [u64; 12], values: &mut [u64; 12]) -> Line
-    requires { l.place ≡ 1 → LateDigit l b }
-    ensures { Takes l name.old forms.old values.old b result name.new forms.new values.new }
-{
-    if is_space(b) {
-        return parted(l, forms, values);
-    }
-    if l.place == ARGUMENT {
-        return l.with_byte(b);
-    }
-    with_letter(l, b, name)
-}
-
-// A byte that ends no line, unless it is a digit in an argument.
-fn fed(l: Line, b: u8, name: &mut [u8; 24], forms: &mut [u64; 12], values: &mut [u64; 12]) -> Line
-    requires { l.place ≡ 1 → is_digit b ≡ false }
-    ensures { Reads l name.old forms.old values.old b result name.new forms.new values.new }
-{
-    if l.place == COMMENT {
-        return l;
-    }
-    let t = l.past_cr();
-    if b == b'\r' {
-        return t.at_cr();
-    }
-    taken(t, b, name, forms, values)
-}
-
-// Whether the byte is a digit in an argument, as most bytes are.
-pub fn is_digit_of(l: Line, b: u8) -> bool
-    ensures { result ≡ digit_of l b }
-{
-    if l.place != ARGUMENT {
-        return false;
-    }
-    is_digit(b)
-}
-
-// The line with such a digit more. It is `read` without what it could else do.
-pub fn read_digit(l: Line, b: u8) -> Line
-    requires { digit_of l b ≡ true }
-    ensures { ReadsDigit l b result }
-{
-    l.with_digit(b)
-}
-
-// The line with one byte more, which does not end it.
-pub fn read(
-    l: Line,
-    b: u8,
-    name: &mut [u8; 24],
-    forms: &mut [u64; 12],
-    values: &mut [u64; 12],
-) -> Line
-    ensures { Reads l name.old forms.old values.old b result name.new forms.new values.new }
-{
-    if l.place == ARGUMENT {
-        if is_digit(b) {
-            return l.with_digit(b);
+    // A space or the end of the line: the word under way ends, if there is one.
+    fn part(&mut self, words: &mut Words)
+        ensures parts { Parts self.old words.old.arguments self.new words.new.arguments }
+        ensures name { words.new.name ≡ words.old.name }
+    {
+        let Place::Arguments = self.place else {
+            self.place = place_parted(self.letters);
+            return;
+        };
+        match self.form {
+            Form::NoWord => {},
+            _ => self.end_argument(words),
         }
     }
-    fed(l, b, name, forms, values)
-}
 
-// Whether the line is empty or a comment.
-fn passed_over(l: Line) -> bool
-    ensures { result ≡ passes_over l }
-{
-    if l.place == COMMENT {
-        return true;
+    // A byte that is no CR and ends no line.
+    fn take(&mut self, b: u8, words: &mut Words)
+        requires { self.old.place ≡ Arguments → LateDigit self.old b }
+        ensures { Takes self.old words.old.name words.old.arguments b self.new words.new.name words.new.arguments }
+    {
+        if is_space(b) {
+            return self.part(words);
+        }
+        if let Place::Arguments = self.place {
+            return self.add_byte(b);
+        }
+        self.add_letter(b, words);
     }
-    l.letters == 0
-}
 
-// What the line asks for that ends here.
-pub fn asked(l: Line, name: &[u8; 24], forms: &mut [u64; 12], values: &mut [u64; 12]) -> Asked
-    ensures { Asks-for l name.now forms.old values.old (asks_of result forms.new values.new) forms.new values.new }
-{
-    if passed_over(l) {
-        return Asked::PassedOver;
+    // A byte that ends no line, unless it is a digit in an argument.
+    fn feed(&mut self, b: u8, words: &mut Words)
+        requires { self.old.place ≡ Arguments → is_digit b ≡ false }
+        ensures { Reads self.old words.old.name words.old.arguments b self.new words.new.name words.new.arguments }
+    {
+        if let Place::Comment = self.place {
+            return;
+        }
+        self.past_cr();
+        if b == b'\r' {
+            return self.at_cr();
+        }
+        self.take(b, words);
     }
-    let t = parted(l.without_cr(), forms, values);
-    asked::understood(name, t.letters, forms, t.arguments, values)
+
+    // Whether the byte is a digit in an argument, as most bytes are.
+    pub fn is_digit(self, b: u8) -> bool
+        ensures { result ≡ digit_of self b }
+    {
+        self.place == Place::Arguments && is_digit(b)
+    }
+
+    // Such a digit more. It is `read` without what it could else do.
+    pub fn read_digit(&mut self, b: u8)
+        requires { digit_of self.old b ≡ true }
+        ensures { ReadsDigit self.old b self.new }
+    {
+        self.add_digit(b);
+    }
+
+    // One byte more, which does not end the line.
+    pub fn read(&mut self, b: u8, words: &mut Words)
+        ensures { Reads self.old words.old.name words.old.arguments b self.new words.new.name words.new.arguments }
+    {
+        if self.is_digit(b) {
+            return self.read_digit(b);
+        }
+        self.feed(b, words);
+    }
+
+    // Whether the line is empty or a comment.
+    fn passed_over(self) -> bool
+        ensures { result ≡ passes_over self }
+    {
+        self.place == Place::Comment || self.letters == 0
+    }
+
+    // What the words ask for. No line has a first word or so many arguments as are cut short here.
+    #[tactic(auto, using(crate::proofs::AskedLaws::take_cut))]
+    fn understood(self, words: &Words) -> Result<Asked, BadLine>
+        ensures { asked_or_bad result ≡ understood_as (take self.letters words.now.name) (take self.arguments words.now.arguments) }
+    {
+        let letters = &words.name[..self.letters.min(LETTERS)];
+        let arguments = &words.arguments[..self.arguments.min(ARGUMENTS)];
+        asked::understood(letters, arguments)
+    }
+
+    // What the line asks for that ends here, if it is not passed over.
+    pub fn asked(self, words: &mut Words) -> Result<Option<Asked>, BadLine>
+        ensures { AsksFor self words.old.name words.old.arguments (asks_of_line result) words.new.name words.new.arguments }
+    {
+        if self.passed_over() {
+            return Ok(None);
+        }
+        let mut t = self;
+        t.without_cr();
+        t.part(words);
+        // `map(Some)` would say the same in a word, and its proof needs a lemma more
+        match t.understood(words) {
+            Ok(asked) => Ok(Some(asked)),
+            Err(bad) => Err(bad),
+        }
+    }
 }

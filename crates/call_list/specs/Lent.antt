@@ -1,8 +1,10 @@
 -- The promise of a call on the first n of the words: "from here on the calls are lent the first N words". Assumes nothing.
-use Rattle.std.specs.Prelude.{ℕ, ◌≡◌, List, length, take, drop}
+use Rattle.std.specs.Prelude.{ℕ, ◌≡◌, Bool, true, List, Result, Ok, Err, length, take, drop}
 use Rattle.rules.specs.Choice.{Answer}
 use Rattle.rules.specs.Arguments.{Call}
 use Rattle.rules.specs.Opening.{Opening}
+use Rattle.event.specs.Answers.{refused_by}
+use Rattle.event.specs.declared.answer.Refusal.{Refusal}
 use Rattle.layout.specs.Accepted.{Accepted}
 use Rattle.simulator.specs.Outcome.{Outcome}
 use Rattle.simulator.specs.Openings.{Opens}
@@ -28,6 +30,11 @@ pub record Takes (w v left : List ℕ) : Type 0 where
   pub words : length v ≡ length w → left ≡ v
   pub other : (length v ≡ length w → ⊥) → left ≡ w
 
--- what the program keeps of the first n of the words w: where the flag is 1, they are an accepted state
-pub record Known (flag n : ℕ) (w : List ℕ) : Type 0 where
-  pub accepted : flag ≡ 1 → Accepted (take n w)
+-- what the program keeps of the first n of the words w: where it knows so, they are an accepted state
+pub record Known (known : Bool) (n : ℕ) (w : List ℕ) : Type 0 where
+  pub accepted : known ≡ true → Accepted (take n w)
+
+-- what the test before a call leaves: a refusal is the answer of any call; else the words are an accepted state
+abbrev pub Tested : ℕ → List ℕ → Result Unit Refusal → Type 0
+Tested n w (Ok u) = Accepted (take n w)
+Tested n w (Err r) = (c : Call) → OnLent n w c (refused_by r) w

@@ -1,2 +1,3 @@
+pub mod Asking
 pub mod Lent
-pub mod Reading
+pub mod Props

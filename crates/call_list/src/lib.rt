@@ -1,8 +1,6 @@
-// Lists of calls: how a line is read, and its call made (docs/CALLS.md).
+// Lists of calls: each line's call is made, and its answer put (docs/CALLS.md).
 #![tactic(auto)]
 
-mod calls;
-pub mod line;
-pub mod reading;
 mod second;
-mod words;
+pub mod session;
+mod state;

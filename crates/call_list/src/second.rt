@@ -1,56 +1,54 @@
-// The second block: packing into it, and taking its words over. Of its words the first `reach` are lent.
+// The second block, which packing writes.
 ghost use Rattle.std.specs.Prelude.{◌≡◌, ◌≤◌, length};
 ghost use Rattle.event.specs.Answers.{answer_of};
-ghost use Rattle.call_list.specs.Lent.{PacksLent, Takes, Known};
+ghost use Rattle.call_list.specs.Lent.{PacksLent};
 
-use crate::calls::Left;
-use crate::{reading, words};
-use answer_text::answers;
+use crate::state;
+use crate::state::State;
+use answer_text::lists;
+use answer_text::text::Output;
 use event::answer::Answer;
 
-// The first `lent` words of the first block, packed.
-pub(crate) fn pack(state: &[u64], lent: usize, second: &mut [u64], reach: usize) -> Answer
-    requires { (lent ≤ length state.now) × (reach ≤ length second.old) }
-    ensures { PacksLent lent state.now reach second.old (answer_of result) second.new }
-{
-    simulator::pack::pack(&state[0..lent], &mut second[0..reach])
+#[derive(Drop)]
+pub struct Second<'a> {
+    pub words: &'a mut [u64],
+    // as many are lent
+    pub lent: usize,
+    pub ghost within: { lent ≤ length words.now },
 }
 
-// The words of the second block over those of the first, where there are as many.
-fn take_second(state: &mut [u64], second: &[u64]) -> Answer
-    ensures { Takes state.old second.now state.new }
-{
-    if second.len() != state.len() {
-        return Answer::Done;
+impl<'a> Second<'a> {
+    // At the start of a list.
+    pub fn new(words: &'a mut [u64]) -> Second<'a>
+        ensures same_reference { result.words.ghost_name ≡ words.entry.ghost_name }
+    {
+        let lent = state::at_most(state::LENT, words.len());
+        Second { words, lent }
     }
-    let mut i = 0;
-    while i < state.len() {
-        state[i] = second[i];
-        i += 1;
-    }
-    Answer::Done
-}
 
-// `take_second`: the words of the first block are those of the second, and not known to be accepted.
-pub(crate) fn taken_second(
-    state: &mut [u64],
-    second: &[u64],
-    reach: usize,
-    out: &mut [u8],
-    used: usize,
-) -> Left
-    requires { used ≤ length out.old }
-    ensures lent_in_bounds { (result.lent ≤ length state.new) × (result.used ≤ length out.new) }
-    ensures known { Known result.known result.lent state.new }
-    ensures takes { Takes state.old second.now state.new }
-{
-    let lent = words::at_most(reach, state);
-    let a = take_second(state, second);
-    let used = answers::told(out, used, a);
-    let after = reading::UNKNOWN;
-    Left {
-        lent,
-        known: after,
-        used,
+    // The first n words are lent, or all there are.
+    pub fn lend(&mut self, n: u64)
+        ensures same_reference { self.new.words.ghost_name ≡ self.old.words.ghost_name }
+    {
+        self.lent = state::at_most(n, self.words.len());
+    }
+
+    pub fn write(&mut self, i: u64, v: u64)
+        ensures same_reference { self.new.words.ghost_name ≡ self.old.words.ghost_name }
+    {
+        state::set_word(self.words, i, v);
+    }
+
+    // The lent words.
+    pub fn list(&self, out: &mut Output<'_>) {
+        lists::words(out, &self.words[..self.lent]);
+    }
+
+    // The lent words of the first block, packed.
+    pub fn pack(&mut self, state: &State<'_>) -> Answer
+        ensures packs { PacksLent state.now.lent state.now.words.now self.old.lent self.old.words.now (answer_of result) self.new.words.now }
+        ensures same_reference { self.new.words.ghost_name ≡ self.old.words.ghost_name }
+    {
+        simulator::pack::pack(&state.words[..state.lent], &mut self.words[..self.lent])
     }
 }

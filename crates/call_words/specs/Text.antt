@@ -8,8 +8,8 @@ abbrev pub bytes : String → List ℕ
 bytes end = []
 bytes (c then s) = code c ∷ bytes s
 
--- whether two lists are as long, and each number of the first passes the test with that of the second in its place
-abbrev pub pairwise : (ℕ → ℕ → Bool) → List ℕ → List ℕ → Bool
+-- whether two lists are as long, and each element of the first passes the test with that of the second in its place
+abbrev pub pairwise : {A B : Type 0} → (A → B → Bool) → List A → List B → Bool
 pairwise test [] [] = true
 pairwise test [] (b ∷ t) = false
 pairwise test (a ∷ s) [] = false

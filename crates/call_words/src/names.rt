@@ -1,13 +1,19 @@
 // Which line a first word names.
-ghost use Rattle.std.specs.Prelude.{◌≡◌, ◌<◌, length, take};
+ghost use Rattle.std.specs.Prelude.{◌≡◌};
 ghost use Rattle.call_words.specs.Text.{same};
 ghost use Rattle.call_words.specs.Names.{named as name_of, named_slot, named_words, named_second};
 
-#[derive(Clone, Copy)]
+// One of the program's two blocks.
+#[derive(Clone, Copy, PartialEq, Eq)]
+pub enum Block {
+    First,
+    Second,
+}
+
+#[derive(Clone, Copy, PartialEq, Eq)]
 pub enum Name {
-    Bad,
-    Lend,
-    Word,
+    Lend(Block),
+    Word(Block),
     Open,
     Push,
     SetAction,
@@ -17,109 +23,69 @@ pub enum Name {
     PickNext,
     SimNetworkStack,
     Show,
-    Words,
-    LendSecond,
-    WordSecond,
-    WordsSecond,
+    Words(Block),
     TakeSecond,
     Pack,
 }
 
-// Whether the first n letters of name are the text.
-#[tactic(auto, using(crate::proofs::PairLaws::pairwise_other, crate::proofs::PairLaws::pairwise_turn, crate::proofs::PairLaws::pairwise_differs, crate::proofs::PairLaws::pairwise_end))]
-fn spells(name: &[u8; 24], n: usize, text: &[u8]) -> bool
-    requires { length text.now < 24 }
-    ensures { result ≡ same (take n name.now) text.now }
+// Whether the letters are those of the text.
+#[tactic(auto, using(crate::proofs::PairLaws::same_text))]
+fn spells(letters: &[u8], text: &[u8]) -> bool
+    ensures { result ≡ same letters.now text.now }
 {
-    let letters: &[u8] = name;
-    if n != text.len() {
-        return false;
-    }
-    let mut i = 0;
-    while i < n {
-        if letters[i] != text[i] {
-            return false;
-        }
-        i += 1;
-    }
-    true
+    letters == text
 }
 
+// The line that these letters name, where they name one.
 #[tactic(auto, unfolding(crate::specs::Names::named))]
-pub(crate) fn named(name: &[u8; 24], n: usize) -> Name
-    ensures { result ≡ name_of (take n name.now) }
+pub(crate) fn named(letters: &[u8]) -> Option<Name>
+    ensures { result ≡ name_of letters.now }
 {
-    if spells(name, n, b"push") {
-        return Name::Push;
+    match letters {
+        _ if spells(letters, b"push") => Some(Name::Push),
+        _ if spells(letters, b"pick_next") => Some(Name::PickNext),
+        _ if spells(letters, b"sim_network_stack") => Some(Name::SimNetworkStack),
+        _ if spells(letters, b"show") => Some(Name::Show),
+        _ => named_slot(letters),
     }
-    if spells(name, n, b"pick_next") {
-        return Name::PickNext;
-    }
-    if spells(name, n, b"sim_network_stack") {
-        return Name::SimNetworkStack;
-    }
-    if spells(name, n, b"show") {
-        return Name::Show;
-    }
-    named_slot(name, n)
 }
 
 #[tactic(auto, unfolding(crate::specs::Names::named_slot))]
-fn named_slot(name: &[u8; 24], n: usize) -> Name
-    ensures { result ≡ named_slot (take n name.now) }
+fn named_slot(letters: &[u8]) -> Option<Name>
+    ensures { result ≡ named_slot letters.now }
 {
-    if spells(name, n, b"set_action") {
-        return Name::SetAction;
+    match letters {
+        _ if spells(letters, b"set_action") => Some(Name::SetAction),
+        _ if spells(letters, b"clear_action") => Some(Name::ClearAction),
+        _ if spells(letters, b"set_timer") => Some(Name::SetTimer),
+        _ if spells(letters, b"clear_timer") => Some(Name::ClearTimer),
+        _ => named_words(letters),
     }
-    if spells(name, n, b"clear_action") {
-        return Name::ClearAction;
-    }
-    if spells(name, n, b"set_timer") {
-        return Name::SetTimer;
-    }
-    if spells(name, n, b"clear_timer") {
-        return Name::ClearTimer;
-    }
-    named_words(name, n)
 }
 
 #[tactic(auto, unfolding(crate::specs::Names::named_words))]
-fn named_words(name: &[u8; 24], n: usize) -> Name
-    ensures { result ≡ named_words (take n name.now) }
+fn named_words(letters: &[u8]) -> Option<Name>
+    ensures { result ≡ named_words letters.now }
 {
-    if spells(name, n, b"open") {
-        return Name::Open;
+    match letters {
+        _ if spells(letters, b"open") => Some(Name::Open),
+        _ if spells(letters, b"lend") => Some(Name::Lend(Block::First)),
+        _ if spells(letters, b"word") => Some(Name::Word(Block::First)),
+        _ if spells(letters, b"words") => Some(Name::Words(Block::First)),
+        _ => named_second(letters),
     }
-    if spells(name, n, b"lend") {
-        return Name::Lend;
-    }
-    if spells(name, n, b"word") {
-        return Name::Word;
-    }
-    if spells(name, n, b"words") {
-        return Name::Words;
-    }
-    named_second(name, n)
 }
 
 #[tactic(auto, unfolding(crate::specs::Names::named_second))]
-fn named_second(name: &[u8; 24], n: usize) -> Name
-    ensures { result ≡ named_second (take n name.now) }
+fn named_second(letters: &[u8]) -> Option<Name>
+    ensures { result ≡ named_second letters.now }
 {
-    if spells(name, n, b"pack") {
-        return Name::Pack;
+    match letters {
+        _ if spells(letters, b"pack") => Some(Name::Pack),
+        _ if spells(letters, b"lend_second") => Some(Name::Lend(Block::Second)),
+        _ if spells(letters, b"word_second") => Some(Name::Word(Block::Second)),
+        _ if spells(letters, b"words_second") => Some(Name::Words(Block::Second)),
+        _ if spells(letters, b"take_second") => Some(Name::TakeSecond),
+        _ => None,
     }
-    if spells(name, n, b"lend_second") {
-        return Name::LendSecond;
-    }
-    if spells(name, n, b"word_second") {
-        return Name::WordSecond;
-    }
-    if spells(name, n, b"words_second") {
-        return Name::WordsSecond;
-    }
-    if spells(name, n, b"take_second") {
-        return Name::TakeSecond;
-    }
-    Name::Bad
 }

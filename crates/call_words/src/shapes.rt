@@ -1,89 +1,83 @@
 // Which arguments a line has.
-ghost use Rattle.std.specs.Prelude.{◌≡◌, ◌<◌, length, take};
+ghost use Rattle.std.specs.Prelude.{◌≡◌, ℕ};
+ghost use Rattle.std.specs.List.{list_all, zip};
 ghost use Rattle.call_words.specs.Shapes.{numeric as is_numeric, stands as can_stand, fits, shape_of};
 
 use crate::names::Name;
 
-// What an argument is: 0 or 1, which serve as flags too; another number; `c` or `s`; `-`; none of these.
-pub const NO_WORD: u64 = 0;
-
-pub const FLAG: u64 = 1;
-
-pub const NUMBER: u64 = 2;
-
-pub const SIDE: u64 = 3;
-
-pub const ABSENT: u64 = 4;
-
-pub const OTHER: u64 = 5;
-
-// Whether an argument of this form is a number.
-pub fn numeric(form: u64) -> bool
-    ensures { result ≡ is_numeric form }
-{
-    if form == FLAG {
-        return true;
-    }
-    form == NUMBER
+// What an argument is: 0 or 1, which serve as flags too; another number; `c` or `s`; `-`; none of these. No word is what stands before its first byte.
+#[derive(Clone, Copy, PartialEq, Eq)]
+pub enum Form {
+    NoWord,
+    Flag,
+    Number,
+    Side,
+    Absent,
+    Other,
 }
 
-// Whether a word of this form can stand where the shape has this letter: n number, f flag, s side, else rate.
-#[tactic(auto, unfolding(crate::specs::Shapes::stands))]
-fn stands(form: u64, letter: u8) -> bool
-    ensures { result ≡ can_stand form letter }
+// An argument: a number's value, 1 for the client, else 0.
+#[derive(Clone, Copy, PartialEq, Eq)]
+pub struct Argument {
+    pub form: Form,
+    pub value: u64,
+}
+
+impl Form {
+    // Whether an argument of this form is a number.
+    pub fn numeric(self) -> bool
+        ensures { result ≡ is_numeric self }
+    {
+        matches!(self, Form::Flag | Form::Number)
+    }
+
+    // Whether a word of this form can stand where the shape has this letter: n number, f flag, s side, else rate.
+    #[tactic(auto, unfolding(crate::specs::Shapes::stands))]
+    fn stands(self, letter: u8) -> bool
+        ensures { result ≡ can_stand self letter }
+    {
+        match letter {
+            b'n' => self.numeric(),
+            b'f' => self == Form::Flag,
+            b's' => self == Form::Side,
+            _ => self == Form::Absent || self.numeric(),
+        }
+    }
+}
+
+// Whether each argument is of the form of the shape's letter in its place.
+fn each_stands(arguments: &[Argument], shape: &[u8]) -> bool
+    ensures { result ≡ list_all (λ (p : Argument × ℕ). can_stand p.0.form p.1) (zip arguments.now shape.now) }
 {
-    if letter == b'n' {
-        return numeric(form);
-    }
-    if letter == b'f' {
-        return form == FLAG;
-    }
-    if letter == b's' {
-        return form == SIDE;
-    }
-    if form == ABSENT {
-        return true;
-    }
-    numeric(form)
+    arguments
+        .iter()
+        .zip(shape)
+        .all(|(argument, letter)| argument.form.stands(*letter))
 }
 
 // Whether there are as many arguments as the shape has letters, each of its form.
-#[tactic(auto, using(crate::proofs::PairLaws::pairwise_other, crate::proofs::PairLaws::pairwise_turn, crate::proofs::PairLaws::pairwise_differs, crate::proofs::PairLaws::pairwise_end))]
-fn shaped(forms: &[u64; 12], n: usize, shape: &[u8]) -> bool
-    requires { length shape.now < 12 }
-    ensures { result ≡ fits (take n forms.now) shape.now }
+#[tactic(auto, using(crate::proofs::PairLaws::fits_all, crate::proofs::PairLaws::fits_other))]
+fn shaped(arguments: &[Argument], shape: &[u8]) -> bool
+    ensures { result ≡ fits arguments.now shape.now }
 {
-    let words: &[u64] = forms;
-    if n != shape.len() {
-        return false;
-    }
-    let mut i = 0;
-    while i < n {
-        if !stands(words[i], shape[i]) {
-            return false;
-        }
-        i += 1;
-    }
-    true
+    arguments.len() == shape.len() && each_stands(arguments, shape)
 }
 
-// Whether the first n arguments are those of the line.
-pub(crate) fn arguments_fit(name: Name, forms: &[u64; 12], n: usize) -> bool
-    ensures { result ≡ fits (take n forms.now) (shape_of name) }
+// Whether these are arguments of the line.
+pub(crate) fn arguments_fit(name: Name, arguments: &[Argument]) -> bool
+    ensures { result ≡ fits arguments.now (shape_of name) }
 {
     match name {
-        Name::Lend => shaped(forms, n, b"n"),
-        Name::Word => shaped(forms, n, b"nn"),
-        Name::Open => shaped(forms, n, b"nrrnnnnnnn"),
-        Name::Push => shaped(forms, n, b"nnnsfffn"),
-        Name::SetAction => shaped(forms, n, b"snnnnff"),
-        Name::ClearAction => shaped(forms, n, b"sn"),
-        Name::SetTimer => shaped(forms, n, b"snn"),
-        Name::ClearTimer => shaped(forms, n, b"sn"),
-        Name::PickNext => shaped(forms, n, b"n"),
-        Name::SimNetworkStack => shaped(forms, n, b"nnnnsfffn"),
-        Name::LendSecond => shaped(forms, n, b"n"),
-        Name::WordSecond => shaped(forms, n, b"nn"),
-        _ => shaped(forms, n, b""),
+        Name::Lend(_) => shaped(arguments, b"n"),
+        Name::Word(_) => shaped(arguments, b"nn"),
+        Name::Open => shaped(arguments, b"nrrnnnnnnn"),
+        Name::Push => shaped(arguments, b"nnnsfffn"),
+        Name::SetAction => shaped(arguments, b"snnnnff"),
+        Name::ClearAction => shaped(arguments, b"sn"),
+        Name::SetTimer => shaped(arguments, b"snn"),
+        Name::ClearTimer => shaped(arguments, b"sn"),
+        Name::PickNext => shaped(arguments, b"n"),
+        Name::SimNetworkStack => shaped(arguments, b"nnnnsfffn"),
+        Name::Show | Name::Words(_) | Name::TakeSecond | Name::Pack => shaped(arguments, b""),
     }
 }

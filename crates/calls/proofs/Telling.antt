@@ -3,15 +3,21 @@ use Prim.Native.Nat.{ℕ}
 use mathlib.Core.Path.{◌≡◌, refl, ap, subst, ◌∙◌}
 use mathlib.Core.Bool.{Bool, true, false}
 use mathlib.Core.List.{List}
-use Rattle.std.specs.Prelude.{if◌then◌else◌}
+use Rattle.std.specs.Prelude.{Option as CodeOption, Some, None, Result, Ok, Err, if◌then◌else◌}
+use mathlib.Core.Option.{Option, none, some}
+use Rattle.rules.specs.State.{Event}
+use Rattle.event.specs.Values.{known_event}
 use Rattle.rules.specs.Basics.{client, server}
 use Rattle.rules.specs.Arguments.{Call, ActionIn, set_action, clear_action, set_timer, clear_timer}
 use Rattle.event.specs.HandedIn.{side_of}
-use Rattle.event.specs.Answers.{answer_of}
-use Rattle.event.specs.declared.answer.Answer.{Answer}
+use Rattle.event.specs.Answers.{answer_of, choice_of, chosen_as, found_as, step_of}
+use Rattle.event.specs.declared.answer.Chosen.{Chosen}
+use Rattle.event.specs.declared.answer.Refusal.{Refusal}
+use Rattle.event.specs.declared.answer.Stepped.{Stepped}
+use Rattle.event.specs.declared.SimEvent.{SimEvent}
 use Rattle.simulator.specs.Outcome.{Outcome}
 use Rattle.simulator.specs.Numbers.{slot_in}
-use Rattle.calls.specs.Told.{is_set, side_for, event_for, action_for, slot_for, number_in, Told}
+use Rattle.calls.specs.Told.{is_set, side_for, event_for, action_for, slot_for, number_in, code_in, Told}
 
 side_is : (b : Bool) (n : ℕ) → b ≡ is_set n → side_of b ≡ side_for n
 side_is b n e = ap side_of e ∙ go (is_set n)
@@ -20,8 +26,30 @@ side_is b n e = ap side_of e ∙ go (is_set n)
     go true = refl
     go false = refl
 
-pub told : (w : List ℕ) (c d : Call) (n : ℕ) (a : Answer) (left : List ℕ) → c ≡ d → Outcome w c (answer_of a) left → n ≡ number_in (answer_of a) → Told w d n left
-told w c d n a left e o q = record { answer = answer_of a; outcome = subst (λ (x : Call). Outcome w x (answer_of a) left) e o; number = q }
+-- ---- the number of an answer
+
+pub answer_code : (a : Result Unit Refusal) → code_in a ≡ number_in (answer_of a)
+answer_code (Ok u) = refl
+answer_code (Err r) = refl
+
+chosen_code : (o : Option Event) (k : ℕ) → 0 ≡ number_in (chosen_as o k)
+chosen_code none k = refl
+chosen_code (some e) k = refl
+
+found_code : (o : CodeOption SimEvent) (k : ℕ) → 0 ≡ number_in (found_as o k)
+found_code None k = refl
+found_code (Some e) k = chosen_code (known_event e) k
+
+pub choice_code : (a : Result Chosen Refusal) → code_in a ≡ number_in (choice_of a)
+choice_code (Ok c) = found_code c.event c.rounds
+choice_code (Err r) = refl
+
+pub step_code : (a : Result Stepped Refusal) → code_in a ≡ number_in (step_of a)
+step_code (Ok m) = refl
+step_code (Err r) = refl
+
+pub told : (w : List ℕ) (c d : Call) (n : ℕ) (a : Result Unit Refusal) (left : List ℕ) → c ≡ d → Outcome w c (answer_of a) left → n ≡ code_in a → Told w d n left
+told w c d n a left e o q = record { answer = answer_of a; outcome = subst (λ (x : Call). Outcome w x (answer_of a) left) e o; number = q ∙ answer_code a }
 
 module _ (z : Bool) (side machine : ℕ) (e : z ≡ is_set side) where
   pub slot_is : slot_in z machine ≡ slot_for side machine

@@ -1,9 +1,11 @@
 -- A call with numbers: what they stand for, and its answer as a number. Assumes nothing.
-use Rattle.std.specs.Prelude.{ℕ, ◌≡◌, Bool, not, List, eqb, if◌then◌else◌}
+use Rattle.std.specs.Prelude.{ℕ, ◌≡◌, Bool, not, List, Result, Ok, Err, eqb, if◌then◌else◌}
 use Rattle.rules.specs.Basics.{Side, client, server}
 use Rattle.rules.specs.Choice.{Answer, done, event, nothing_left, step_made, refused}
 use Rattle.rules.specs.Arguments.{Call, EventIn, ActionIn}
 use Rattle.rules.specs.ChoiceRound.{Slot}
+use Rattle.event.specs.Answers.{number_of}
+use Rattle.event.specs.declared.answer.Refusal.{Refusal}
 use Rattle.simulator.specs.Outcome.{Outcome}
 
 -- "0 is server or no, every other number client or yes"
@@ -31,6 +33,11 @@ number_in (event e k) = 0
 number_in (nothing_left k) = 0
 number_in (step_made a f) = 0
 number_in (refused n k) = n
+
+-- the same of an answer in the code: of a push, a choice or a step
+abbrev pub code_in : {T : Type 0} → Result T Refusal → ℕ
+code_in (Ok x) = 0
+code_in (Err r) = number_of r.reason
 
 -- the call c on the words w: it keeps the promise of every call, and n is the number of its answer
 pub record Told (w : List ℕ) (c : Call) (n : ℕ) (left : List ℕ) : Type 0 where

@@ -1,43 +1,37 @@
 // A list of calls on a lent block: the words are tested once, and the rows are made one by one.
-ghost use Rattle.std.specs.Prelude.{◌≡◌, ◌+◌, ◌*◌, ◌<◌, ◌≤◌, ◌++◌, length, take, drop};
-ghost use Rattle.simulator.specs.Numbers.{Lent};
-ghost use Rattle.calls.specs.Rows.{code_at, least as least_of};
+ghost use Rattle.std.specs.Prelude.{ℕ, List, ◌≡◌, ◌+◌, ◌*◌, ◌<◌, ◌≤◌, ◌++◌, length, take, drop};
+ghost use Rattle.simulator.specs.Numbers.{refused_with, Lent};
+ghost use Rattle.calls.specs.Rows.{code_at};
+ghost use Rattle.calls.specs.Codes.{code_no};
 ghost use Rattle.calls.specs.Listed.{RowMade, Listed};
 ghost use Rattle.calls.specs.Made.{ends_row, last_row};
 
+use crate::row::Code;
 use crate::{row, turn};
+use event::answer::Reason;
 use moment::Moment;
 
-fn least(a: usize, b: usize) -> usize
-    ensures { result ≡ least_of a b }
-{
-    if a < b {
-        return a;
-    }
-    b
-}
-
-// Row `at`, on words that are refused with the number `bad`, or accepted where that is 0. `last` is the moment of the last event chosen.
+// Row `at`, on words that were tested, with what the test found. `last` is the moment of the last event chosen.
 fn make_row(
     block: &mut [u64],
     hints: &mut [u64; 12],
     rows: &[u64],
     at: usize,
-    bad: u64,
+    code: Code,
+    tested: Result<(), Reason>,
     last: u64,
 ) -> [u64; 16]
-    requires fact_1 { Lent block.old bad }
+    requires fact_1 { Lent block.old (refused_with tested) }
     requires fact_2 { 12 * at + 12 ≤ length rows.now }
-    requires fact_3 { code_at rows.now at < 8 }
+    requires fact_3 { code_at rows.now at ≡ code_no code }
     ensures { RowMade block.old rows.now at last result block.new }
 {
-    if bad != 0 {
-        return row::number_words(bad);
+    if let Err(reason) = tested {
+        return row::number_words(reason.number());
     }
-    let code = row::word(rows, at, 0);
-    if code == row::TURN {
+    if let Code::Turn = code {
         let time = Moment(row::word(rows, at, 1));
-        return turn::turn(block, hints, time.later(Moment(last)));
+        return turn::turn(block, hints, time.max(Moment(last)));
     }
     row::call(block, hints, rows, at, code)
 }
@@ -53,29 +47,25 @@ fn store(out: &mut [u64], at: usize, words: [u64; 16])
 }
 
 // Whether the list ends after row `at`, whose answer is given.
-fn ends(rows: &[u64], at: usize, words: [u64; 16]) -> bool
-    requires { 12 * at + 12 ≤ length rows.now }
+fn ends(rows: &[u64], at: usize, code: Code, words: [u64; 16]) -> bool
+    requires fact_1 { 12 * at + 12 ≤ length rows.now }
+    requires fact_2 { code_at rows.now at ≡ code_no code }
     ensures { result ≡ ends_row rows.now at words }
 {
-    if row::word(rows, at, 0) != row::TURN {
-        return false;
+    match code {
+        Code::Turn => turn::ends(words, row::word(rows, at, 2)),
+        _ => false,
     }
-    turn::ends(words, row::word(rows, at, 2))
 }
 
-// The moment of the last event chosen, after row `at`.
-fn last_after(rows: &[u64], at: usize, words: [u64; 16], last: u64) -> u64
-    requires { 12 * at + 12 ≤ length rows.now }
-    ensures { result ≡ last_row rows.now at words last }
+// The moment of the last event chosen, after a row of this code.
+fn last_after(code: Code, words: [u64; 16], last: u64) -> u64
+    ensures { (rows : List ℕ) (at : ℕ) → code_at rows at ≡ code_no code → result ≡ last_row rows at words last }
 {
-    let code = row::word(rows, at, 0);
-    if code == row::PICK_NEXT {
-        return turn::last(words, last);
+    match code {
+        Code::PickNext | Code::Turn => turn::last(words, last),
+        _ => last,
     }
-    if code == row::TURN {
-        return turn::last(words, last);
-    }
-    last
 }
 
 // The rows, one by one. Answers how many were made.
@@ -84,27 +74,25 @@ fn make_rows(
     hints: &mut [u64; 12],
     rows: &[u64],
     out: &mut [u64],
-    bad: u64,
+    tested: Result<(), Reason>,
 ) -> u64
-    requires { Lent block.old bad }
+    requires { Lent block.old (refused_with tested) }
     ensures { Listed block.old rows.now out.old result block.new out.new }
 {
-    let most = least(rows.len() / 12, out.len() / 16);
+    let most = (rows.len() / 12).min(out.len() / 16);
     let mut last = 0;
-    let mut at = 0usize;
-    while at < most {
-        if row::word(rows, at, 0) > row::TURN {
+    for at in 0..most {
+        let Some(code) = Code::from_word(row::word(rows, at, 0)) else {
             return at as u64;
-        }
-        let words = make_row(block, hints, rows, at, bad, last);
+        };
+        let words = make_row(block, hints, rows, at, code, tested, last);
         store(out, at, words);
-        if ends(rows, at, words) {
+        if ends(rows, at, code, words) {
             return (at + 1) as u64;
         }
-        last = last_after(rows, at, words, last);
-        at = at + 1;
+        last = last_after(code, words, last);
     }
-    at as u64
+    most as u64
 }
 
 // A list of calls. Answers how many rows were made.
@@ -112,6 +100,6 @@ pub fn calls(block: &mut [u64], rows: &[u64], out: &mut [u64]) -> u64
     ensures { Listed block.old rows.now out.old result block.new out.new }
 {
     let mut hints = [0u64; 12];
-    let bad = simulator::admit::lent(block, &mut hints);
-    make_rows(block, &mut hints, rows, out, bad)
+    let tested = simulator::admit::lent(block, &mut hints);
+    make_rows(block, &mut hints, rows, out, tested)
 }

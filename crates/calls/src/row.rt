@@ -5,29 +5,45 @@ ghost use Rattle.event.specs.Answers.{choice_of, step_of};
 ghost use Rattle.layout.specs.Accepted.{Accepted};
 ghost use Rattle.calls.specs.Told.{event_for, action_for, slot_for, number_in};
 ghost use Rattle.calls.specs.Answers.{choice_words, step_words};
-ghost use Rattle.calls.specs.Rows.{code_at, word_at, call_for, zeros};
+ghost use Rattle.calls.specs.Rows.{word_at, call_for, zeros};
+ghost use Rattle.calls.specs.Codes.{code_no, ReadAs};
 ghost use Rattle.calls.specs.Made.{CallMade};
 
 use crate::{told, written};
 use event::answer::{Choice, Step};
 use moment::Moment;
 
-// The codes of the calls; a turn is the last.
-pub const PUSH: u64 = 0;
+// What a row asks for: a call, or a turn.
+#[derive(Clone, Copy)]
+pub enum Code {
+    Push,
+    SetAction,
+    ClearAction,
+    SetTimer,
+    ClearTimer,
+    PickNext,
+    SimNetworkStack,
+    Turn,
+}
 
-pub const SET_ACTION: u64 = 1;
-
-pub const CLEAR_ACTION: u64 = 2;
-
-pub const SET_TIMER: u64 = 3;
-
-pub const CLEAR_TIMER: u64 = 4;
-
-pub const PICK_NEXT: u64 = 5;
-
-pub const SIM_NETWORK_STACK: u64 = 6;
-
-pub const TURN: u64 = 7;
+impl Code {
+    // By a row's first word.
+    pub fn from_word(word: u64) -> Option<Code>
+        ensures { ReadAs word result }
+    {
+        match word {
+            0 => Some(Code::Push),
+            1 => Some(Code::SetAction),
+            2 => Some(Code::ClearAction),
+            3 => Some(Code::SetTimer),
+            4 => Some(Code::ClearTimer),
+            5 => Some(Code::PickNext),
+            6 => Some(Code::SimNetworkStack),
+            7 => Some(Code::Turn),
+            _ => None,
+        }
+    }
+}
 
 // Word j of row `at`.
 pub fn word(rows: &[u64], at: usize, j: usize) -> u64
@@ -48,7 +64,7 @@ pub fn number_words(n: u64) -> [u64; 16]
 pub fn choice_row(a: Choice) -> [u64; 16]
     ensures { result ≡ number_in (choice_of a) ∷ choice_words (choice_of a) ++ zeros 5 }
 {
-    let n = written::choice_number(a);
+    let n = told::number(a);
     let w = written::choice_words(a);
     [
         n, w[0], w[1], w[2], w[3], w[4], w[5], w[6], w[7], w[8], w[9], 0, 0, 0, 0, 0,
@@ -59,7 +75,7 @@ pub fn choice_row(a: Choice) -> [u64; 16]
 fn step_row(a: Step) -> [u64; 16]
     ensures { result ≡ number_in (step_of a) ∷ step_words (step_of a) ++ zeros 12 }
 {
-    let n = written::step_number(a);
+    let n = told::number(a);
     let w = written::step_words(a);
     [n, w[0], w[1], w[2], 0, 0, 0, 0, 0, 0, 0, 0, 0, 0, 0, 0]
 }
@@ -162,47 +178,27 @@ fn sim_network_stack(block: &mut [u64], hints: &mut [u64; 12], rows: &[u64], at:
     step_row(a)
 }
 
-// Setting and clearing: codes 1 to 4.
-fn slot_call(block: &mut [u64], rows: &[u64], at: usize, code: u64) -> [u64; 16]
-    requires fact_1 { Accepted block.old }
-    requires fact_2 { 12 * at + 12 ≤ length rows.now }
-    requires fact_3 { 0 < code }
-    requires fact_4 { code < 5 }
-    ensures { CallMade block.old (call_for code (word_at rows.now at)) result block.new }
-{
-    if code == SET_ACTION {
-        return set_action(block, rows, at);
-    }
-    if code == CLEAR_ACTION {
-        return clear_action(block, rows, at);
-    }
-    if code == SET_TIMER {
-        return set_timer(block, rows, at);
-    }
-    clear_timer(block, rows, at)
-}
-
-// The call of row `at`: codes 0 to 6.
+// The call of row `at`.
 pub fn call(
     block: &mut [u64],
     hints: &mut [u64; 12],
     rows: &[u64],
     at: usize,
-    code: u64,
+    code: Code,
 ) -> [u64; 16]
     requires fact_1 { Accepted block.old }
     requires fact_2 { 12 * at + 12 ≤ length rows.now }
-    requires fact_3 { code < 7 }
-    ensures { CallMade block.old (call_for code (word_at rows.now at)) result block.new }
+    requires fact_3 { code_no code < 7 }
+    ensures { CallMade block.old (call_for (code_no code) (word_at rows.now at)) result block.new }
 {
-    if code == PUSH {
-        return push_sim(block, hints, rows, at);
+    match code {
+        Code::Push => push_sim(block, hints, rows, at),
+        Code::SetAction => set_action(block, rows, at),
+        Code::ClearAction => clear_action(block, rows, at),
+        Code::SetTimer => set_timer(block, rows, at),
+        Code::ClearTimer => clear_timer(block, rows, at),
+        Code::PickNext => pick_next(block, hints, rows, at),
+        Code::SimNetworkStack => sim_network_stack(block, hints, rows, at),
+        Code::Turn => unreachable!(),
     }
-    if code == PICK_NEXT {
-        return pick_next(block, hints, rows, at);
-    }
-    if code == SIM_NETWORK_STACK {
-        return sim_network_stack(block, hints, rows, at);
-    }
-    slot_call(block, rows, at, code)
 }

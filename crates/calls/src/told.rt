@@ -1,10 +1,9 @@
 // What crosses as numbers: an event, an action, a flag, and a call's answer.
 ghost use Rattle.std.specs.Prelude.{◌≡◌};
 ghost use Rattle.event.specs.HandedIn.{event_in, action_in};
-ghost use Rattle.event.specs.Answers.{answer_of};
-ghost use Rattle.calls.specs.Told.{is_set, event_for, action_for, number_in};
+ghost use Rattle.calls.specs.Told.{is_set, event_for, action_for, code_in};
 
-use event::answer::Answer;
+use event::answer::Refusal;
 use event::{ActionKind, Kind, ScheduledAction, SimEvent};
 use moment::{Length, Moment};
 
@@ -14,14 +13,14 @@ pub fn is_set(n: u64) -> bool
     n != 0
 }
 
-// The number of an answer: 0 for done.
-pub fn number(a: Answer) -> u64
-    ensures { result ≡ number_in (answer_of a) }
+// The number of an answer: 0 for one that is no refusal.
+pub fn number<T: Copy>(a: Result<T, Refusal>) -> u64
+    ensures { result ≡ code_in a }
 {
-    let Answer::Refused(r) = a else {
-        return 0;
-    };
-    r.number
+    match a {
+        Ok(_) => 0,
+        Err(r) => r.reason.number(),
+    }
 }
 
 // The event that is handed in.

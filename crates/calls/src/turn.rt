@@ -6,7 +6,7 @@ ghost use Rattle.calls.specs.Rows.{turn_words};
 ghost use Rattle.calls.specs.Rows.{bit as bit_of};
 ghost use Rattle.calls.specs.Made.{TurnMade, ends_with, last_with};
 
-use crate::{row, written};
+use crate::{row, told, written};
 use event::answer::{Choice, Step};
 use moment::Moment;
 
@@ -26,7 +26,7 @@ const SERVER: u64 = 65_536;
 fn turn_row(a: Choice, b: Step) -> [u64; 16]
     ensures { result ≡ turn_words (choice_of a) (step_of b) }
 {
-    let n = written::step_number(b);
+    let n = told::number(b);
     let w = written::choice_words(a);
     let s = written::step_words(b);
     [
@@ -41,14 +41,14 @@ pub fn turn(block: &mut [u64], hints: &mut [u64; 12], time: Moment) -> [u64; 16]
 {
     let a = simulator::choice::pick_next_on(block, hints, time);
     match a {
-        Choice::Event(c) => {
-            let e = c.event;
-            let moment = e.moment;
-            let b = simulator::step::sim_network_stack_on(block, hints, e, moment);
-            turn_row(a, b)
-        }
-        Choice::Nothing(_) => row::choice_row(a),
-        Choice::Refused(_) => row::choice_row(a),
+        Ok(c) => match c.event {
+            Some(e) => {
+                let b = simulator::step::sim_network_stack_on(block, hints, e, e.moment);
+                turn_row(a, b)
+            }
+            None => row::choice_row(a),
+        },
+        Err(_) => row::choice_row(a),
     }
 }
 

@@ -1,14 +1,15 @@
 -- The sums of an action, and of each case. Assumes nothing.
 use Prim.Native.Nat.{ℕ, zero, suc, ◌+◌, ◌*◌, ◌^◌, ◌<◌, ◌≤◌}
 use mathlib.Core.Path.{◌≡◌, refl, sym, ap, ap₂, subst, subst⁻¹, ◌∙◌}
-use mathlib.Core.Bool.{Bool, true, false, ◌&&◌}
+use mathlib.Core.Bool.{Bool, true, false, not, ◌&&◌}
 use mathlib.Core.List.{List, [], ◌∷◌}
-use mathlib.Core.Option
-use mathlib.Core.Option.{Option, none, some}
+use mathlib.Core.Option as RulesOption
+use mathlib.Core.Option.{Option as RulesOption, none, some}
 use native.Mathlib.Omega.{arith}
 use lib.Dec.{leb}
 use lib.ListN.{get_or}
-use borrow.Author.Tests.{eq-eqb, ne_eqb}
+use borrow.Author.Tests.{eq-eqb, ne_eqb, not-true, not-false}
+use Rattle.std.specs.Prelude.{Option}
 use Rattle.rules.specs.State.{Action, ActionKind, SendPadding, BlockOutgoing}
 use Rattle.rules.specs.Limits.{moment_limit, duration_limit}
 use Rattle.rules.specs.ChoiceRound.{fits, candidate_sums, raised_sum, action_sums, a_block}
@@ -23,7 +24,7 @@ use Rattle.queue.specs.declared.peek.Head.{Head}
 use Rattle.queue.specs.Heads.{side_held}
 use Rattle.queue_peek.specs.declared.blocks.BlockEnd.{BlockEnd}
 use Rattle.queue_peek.specs.Decoded.{block_from}
-use Rattle.delay.specs.declared.Delayed.{Delayed}
+use Rattle.moment.specs.declared.Length.{Length}
 use Rattle.delay.specs.Tests.{delayed_of}
 use Rattle.layout.proofs.Banks.{bank_at}
 use Rattle.queue_peek.proofs.BlockLaws.{end_small}
@@ -75,22 +76,22 @@ module _ (h : List ℕ) (b : Bool) (a : ScheduledAction) where
         ap (λ (k : ActionKind). fits (action_sums k (side_held h rs b) (action_value a))) (kind_block a.kind.0 ne)
         ∙ ap (λ (y : Bool). y && (leb (a.moment.0 + ((side_held h rs b).fixed.action_delay + (side_held h rs b).fixed.reporting_delay)) moment_limit && true)) (sym (ex ∙ ap (λ i. leb i moment_limit) em))
 
-    pub action_long : x ≡ false → (rs : List ℕ) → false ≡ fits (action_sums (action_kind_at a.kind.0) (side_held h rs b) (action_value a))
-    action_long f rs = sym (block_is rs ∙ rw f)
+    pub action_long : not x ≡ true → (rs : List ℕ) → false ≡ fits (action_sums (action_kind_at a.kind.0) (side_held h rs b) (action_value a))
+    action_long f rs = sym (block_is rs ∙ rw (not-true x f))
 
-    pub action_sums_lem : (n u : ℕ) (r : Bool) → x ≡ true → ((ws : List ℕ) → n ≡ (side_held h ws b).fixed.action_delay + (side_held h ws b).fixed.reporting_delay)
+    pub action_sums_lem : (n u : ℕ) (r : Bool) → not x ≡ false → ((ws : List ℕ) → n ≡ (side_held h ws b).fixed.action_delay + (side_held h ws b).fixed.reporting_delay)
         → u ≡ a.moment.0 + n → r ≡ leb u moment_limit → (rs : List ℕ) → r ≡ fits (action_sums (action_kind_at a.kind.0) (side_held h rs b) (action_value a))
     action_sums_lem n u r f en eu er rs =
         er ∙ ap (λ i. leb i moment_limit) (eu ∙ ap (λ i. a.moment.0 + i) (en rs))
         ∙ and_one (leb (a.moment.0 + ((side_held h rs b).fixed.action_delay + (side_held h rs b).fixed.reporting_delay)) moment_limit)
-        ∙ sym (block_is rs ∙ rw f)
+        ∙ sym (block_is rs ∙ rw (not-false x f))
 
 -- ---- what stands in the words
 
 pub good_limits : (h rs : List ℕ) → Good h rs → Limited h
 good_limits h rs g = g.limits
 
-Within : Option Action → Type 0
+Within : RulesOption Action → Type 0
 Within none = Unit {0}
 Within (some a) = (a.moment ≤ moment_limit) × (a.duration ≤ duration_limit)
 
@@ -125,9 +126,9 @@ module _ (h rs : List ℕ) (c : Candidate) (g : Good h rs) (s : Stands h rs c) w
   unfolding Within
   stands_duration p e = (planned_held p e).1
 
-pub stands_end : (h rs : List ℕ) (c : Candidate) (t : ℕ) (k : BlockEnd) (by : Delayed) → c ≡ ABlock k by → Good h rs → t ≤ moment_limit → Stands h rs c → k.end.0 ≤ moment_limit
+pub stands_end : (h rs : List ℕ) (c : Candidate) (t : ℕ) (k : BlockEnd) (by : Option Length) → c ≡ ABlock k by → Good h rs → t ≤ moment_limit → Stands h rs c → k.end.0 ≤ moment_limit
 unfolding Stands
-stands_end h rs c t k by e g l s = subst (λ o. Option.get_or o t ≤ moment_limit) (subst (Stands h rs) e s) (end_small h rs k.client t g l)
+stands_end h rs c t k by e g l s = subst (λ o. RulesOption.get_or o t ≤ moment_limit) (subst (Stands h rs) e s) (end_small h rs k.client t g l)
 
 -- ---- the cases
 
@@ -144,7 +145,7 @@ module _ (h : List ℕ) (t : ℕ) (c : Candidate) where
     unfolding candidate_of
     case_aggregate a e f = told (AnAggregate a) e r (λ rs q. f rs)
 
-    pub case_block : (k : BlockEnd) (by : Delayed) → c ≡ ABlock k by
+    pub case_block : (k : BlockEnd) (by : Option Length) → c ≡ ABlock k by
         → ((ws : List ℕ) → delayed_of by ≡ held_up_at (state_from h ws) t (block_from k) → r ≡ fits (candidate_sums (state_from h ws) t (a_block (block_from k)))) → (rs : List ℕ) → Reckoned h rs t c → Sums c r rs
     unfolding candidate_of Reckoned
     case_block k by e f = told (ABlock k by) e r f

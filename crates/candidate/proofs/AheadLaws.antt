@@ -2,8 +2,8 @@
 use Prim.Native.Nat.{ℕ, zero, suc, ◌+◌, ◌-◌, ◌*◌, ◌<◌, ◌≤◌}
 use mathlib.Core.Path.{◌≡◌, refl, sym, ap, subst, ◌∙◌}
 use mathlib.Core.Bool.{Bool, true, false}
-use mathlib.Core.List.{List}
-use mathlib.Core.Option.{Option, none, some, map}
+use mathlib.Core.List.{List, ◌∷◌, map as map_list}
+use mathlib.Core.Option.{Option as RulesOption, none, some, map}
 use native.Mathlib.Omega.{arith}
 use lib.Dec.{leb}
 use lib.ListN.{get_or}
@@ -21,15 +21,35 @@ use Rattle.queue.specs.Heads.{side_held}
 use Rattle.queue_peek.specs.declared.five.Delays.{Delays}
 use Rattle.queue_peek.specs.Decoded.{delay_of, delays_of}
 use Rattle.layout.proofs.Banks.{bank_at}
-use Rattle.candidate.specs.Promises.{timer_in, planned_in, moment_in, Ahead}
-use Rattle.candidate.proofs.SlotLaws.{side_small, timers_are, moments_are}
+use Rattle.candidate.specs.Promises.{planned_in, Ahead}
+use Rattle.candidate.proofs.SlotLaws.{side_small, actions_are}
+
+-- the moments of a side's slots, from their words
+timer_in : List ℕ → Bool → ℕ → RulesOption ℕ
+timer_in h client i = less_one (bank 64 32 h (16 * side_no (side_of client) + i))
+
+moment_in : List ℕ → Bool → ℕ → RulesOption ℕ
+moment_in h client i = map (λ (a : Action). a.moment) (planned_in h client i)
+
+timers_are : (h rs : List ℕ) (b : Bool) → (side_held h rs b).timers ≡ firsts 16 (timer_in h b)
+unfolding state_from timer_in
+timers_are h rs true = refl
+timers_are h rs false = refl
+
+map_firsts : {A B : Type 0} (g : A → B) (n : ℕ) (f : ℕ → A) → map_list g (firsts n f) ≡ firsts n (λ i. g (f i))
+map_firsts g zero f = refl
+map_firsts g (suc n) f = ap (λ l. g (f 0) ∷ l) (map_firsts g n (λ i. f (suc i)))
+
+moments_are : (h rs : List ℕ) (b : Bool) → action_moments (side_held h rs b) ≡ firsts 16 (moment_in h b)
+unfolding moment_in
+moments_are h rs b = ap (map_list (map (λ (a : Action). a.moment))) (actions_are h rs b) ∙ map_firsts (map (λ (a : Action). a.moment)) 16 (planned_in h b)
 
 -- a slot's moment is within the limit
-Small : Option ℕ → Type 0
+Small : RulesOption ℕ → Type 0
 Small none = Unit {0}
 Small (some u) = u ≤ moment_limit
 
-ahead_slot : (t : ℕ) (o : Option ℕ) → Small o → Ahead t (slot_delay t o)
+ahead_slot : (t : ℕ) (o : RulesOption ℕ) → Small o → Ahead t (slot_delay t o)
 unfolding Small Ahead
 ahead_slot t none l = tt
 ahead_slot t (some u) l = go (leb t u) refl
@@ -45,7 +65,7 @@ ahead_earlier t a b p q = go (a ≤ᵈ b)
     go true = p
     go false = q
 
-ahead_least : (n : ℕ) (f : ℕ → Option ℕ) (t : ℕ) → ((i : ℕ) → i < n → Small (f i)) → Ahead t (least_delay t (firsts n f))
+ahead_least : (n : ℕ) (f : ℕ → RulesOption ℕ) (t : ℕ) → ((i : ℕ) → i < n → Small (f i)) → Ahead t (least_delay t (firsts n f))
 unfolding Ahead
 ahead_least zero f t s = tt
 ahead_least (suc n) f t s =

@@ -1,7 +1,7 @@
 pub mod SlotLaws
 pub mod PlannedLaws
 pub mod AheadLaws
-pub mod PickLaws
 pub mod OrderLaws
+pub mod PickLaws
 pub mod SumLaws
 pub mod ActionSums

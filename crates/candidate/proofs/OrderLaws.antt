@@ -1,71 +1,41 @@
 -- The tests of a round, and the first that fits. Assumes nothing.
 use Prim.Native.Nat.{ℕ, ◌+◌}
 use mathlib.Core.Path.{◌≡◌, sym, ap, subst⁻¹, ◌∙◌}
-use mathlib.Core.Bool.{Bool, true, false, not}
+use mathlib.Core.Bool.{Bool, true, false, ◌&&◌}
 use mathlib.Core.List.{List, head?}
-use mathlib.Core.Option.{Option, none, some}
-use borrow.Author.Tests.{not-true, not-false}
-use Rattle.std.specs.Prelude.{if◌then◌else◌}
+use mathlib.Core.Option.{Option as RulesOption, none, some}
+use Rattle.std.specs.Prelude.{if◌then◌else◌, Option, Some, None}
 use Rattle.rules.specs.Basics.{after, absent, Delay, ◌≤ᵈ◌}
 use Rattle.rules.specs.State.{State}
 use Rattle.rules.specs.ChoiceHeads.{Head}
 use Rattle.rules.specs.ChoiceDelays.{Delays as RulesDelays, delays, offered, next_block}
 use Rattle.rules.specs.ChoiceRound.{Slot, Candidate as RulesCandidate, candidate, first_fitting, aggregate_first, block_first, event_first, timer_first, or_none, an_aggregate, a_block, an_event, a_timer, an_action, none_left, timer_slot, action_slot, action_from, action_in, due_timer, due_action}
 use Rattle.layout.specs.Layout.{state_from}
-use Rattle.queue.specs.Heads.{PeekedBoth}
+use Rattle.queue.specs.declared.view.Words.{Words}
+use Rattle.queue.specs.Views.{state_in}
+use Rattle.queue.specs.Heads.{PeekedBothIn}
 use Rattle.queue_peek.specs.declared.five.Delays.{Delays}
 use Rattle.queue_peek.specs.Decoded.{delay_of, delays_of}
-use Rattle.candidate.specs.declared.Next.{Next}
-use Rattle.candidate.specs.declared.Next.TheVariants.{Take, Nothing}
+use Rattle.candidate.specs.declared.Candidate.{Candidate}
 use Rattle.candidate.specs.declared.Candidate.TheVariants.{Aggregate, Block, Event, Timer, Action as TheAction}
 use Rattle.candidate.specs.Candidates.{candidate_of, next_of, Reckoned, NextReckoned}
-use Rattle.candidate.specs.Promises.{Picked, TakenUp, later_fitting}
+use Rattle.candidate.specs.Promises.{Picked, PickedIn, TakenUp, later_fitting}
 use Rattle.candidate.proofs.PickLaws.{moved}
 
 -- ---- the tests
 
-module _ (d : Delays) where
-  module _ (x : Bool) (ex : x ≡ (delay_of d.n ≤ᵈ delay_of d.s)) where
-    pub aggregate_not_1 : not x ≡ true → false ≡ aggregate_first (delays_of d)
-    unfolding delays_of
-    aggregate_not_1 f = rw (sym ex ∙ not-true x f)
+module _ (d : Delays) (x y z w : Bool) where
+  pub aggregate_goes : x ≡ (delay_of d.n ≤ᵈ delay_of d.s) → y ≡ (delay_of d.n ≤ᵈ delay_of d.i) → z ≡ (delay_of d.n ≤ᵈ delay_of d.b) → w ≡ (delay_of d.n ≤ᵈ delay_of d.q) → (((x && y) && z) && w) ≡ aggregate_first (delays_of d)
+  unfolding delays_of
+  aggregate_goes ex ey ez ew = λ i. (((ex i && ey i) && ez i) && ew i)
 
-    module _ (y : Bool) (tx : not x ≡ false) (ey : y ≡ (delay_of d.n ≤ᵈ delay_of d.i)) where
-      pub aggregate_not_2 : not y ≡ true → false ≡ aggregate_first (delays_of d)
-      unfolding delays_of
-      aggregate_not_2 f = rw (sym ex ∙ not-false x tx, sym ey ∙ not-true y f)
+  pub block_goes : x ≡ (delay_of d.b ≤ᵈ delay_of d.s) → y ≡ (delay_of d.b ≤ᵈ delay_of d.i) → z ≡ (delay_of d.b ≤ᵈ delay_of d.q) → ((x && y) && z) ≡ block_first (delays_of d)
+  unfolding delays_of
+  block_goes ex ey ez = λ i. ((ex i && ey i) && ez i)
 
-      module _ (z : Bool) (ty : not y ≡ false) (ez : z ≡ (delay_of d.n ≤ᵈ delay_of d.b)) where
-        pub aggregate_not_3 : not z ≡ true → false ≡ aggregate_first (delays_of d)
-        unfolding delays_of
-        aggregate_not_3 f = rw (sym ex ∙ not-false x tx, sym ey ∙ not-false y ty, sym ez ∙ not-true z f)
-
-        pub aggregate_goes : (r : Bool) → not z ≡ false → r ≡ (delay_of d.n ≤ᵈ delay_of d.q) → r ≡ aggregate_first (delays_of d)
-        unfolding delays_of
-        aggregate_goes r tz er = rw (sym ex ∙ not-false x tx, sym ey ∙ not-false y ty, sym ez ∙ not-false z tz) er
-
-  module _ (x : Bool) (ex : x ≡ (delay_of d.b ≤ᵈ delay_of d.s)) where
-    pub block_not_1 : not x ≡ true → false ≡ block_first (delays_of d)
-    unfolding delays_of
-    block_not_1 f = rw (sym ex ∙ not-true x f)
-
-    module _ (y : Bool) (tx : not x ≡ false) (ey : y ≡ (delay_of d.b ≤ᵈ delay_of d.i)) where
-      pub block_not_2 : not y ≡ true → false ≡ block_first (delays_of d)
-      unfolding delays_of
-      block_not_2 f = rw (sym ex ∙ not-false x tx, sym ey ∙ not-true y f)
-
-      pub block_goes : (r : Bool) → not y ≡ false → r ≡ (delay_of d.b ≤ᵈ delay_of d.q) → r ≡ block_first (delays_of d)
-      unfolding delays_of
-      block_goes r ty er = rw (sym ex ∙ not-false x tx, sym ey ∙ not-false y ty) er
-
-  module _ (x : Bool) (ex : x ≡ (delay_of d.q ≤ᵈ delay_of d.s)) where
-    pub event_not_1 : not x ≡ true → false ≡ event_first (delays_of d)
-    unfolding delays_of
-    event_not_1 f = rw (sym ex ∙ not-true x f)
-
-    pub event_goes : (r : Bool) → not x ≡ false → r ≡ (delay_of d.q ≤ᵈ delay_of d.i) → r ≡ event_first (delays_of d)
-    unfolding delays_of
-    event_goes r tx er = rw (sym ex ∙ not-false x tx) er
+  pub event_goes : x ≡ (delay_of d.q ≤ᵈ delay_of d.s) → y ≡ (delay_of d.q ≤ᵈ delay_of d.i) → (x && y) ≡ event_first (delays_of d)
+  unfolding delays_of
+  event_goes ex ey = λ i. (ex i && ey i)
 
 -- ---- what is no block's end has nothing reckoned
 
@@ -77,16 +47,16 @@ OtherThanBlock (a_timer z m) = Unit {0}
 OtherThanBlock (an_action z a) = Unit {0}
 OtherThanBlock none_left = Unit {0}
 
-none_reckoned : (h rs : List ℕ) (t : ℕ) (r : Next) (c : RulesCandidate) → next_of h r ≡ c → OtherThanBlock c → NextReckoned h rs t r
+none_reckoned : (h rs : List ℕ) (t : ℕ) (r : Option Candidate) (c : RulesCandidate) → next_of h r ≡ c → OtherThanBlock c → NextReckoned h rs t r
 unfolding OtherThanBlock next_of candidate_of NextReckoned Reckoned
-none_reckoned h rs t (Take (Aggregate a)) c e o = tt
-none_reckoned h rs t (Take (Block k by)) c e o = absurd (subst⁻¹ OtherThanBlock e o)
-none_reckoned h rs t (Take (Event x)) c e o = tt
-none_reckoned h rs t (Take (Timer z)) c e o = tt
-none_reckoned h rs t (Take (TheAction p)) c e o = tt
-none_reckoned h rs t Nothing c e o = tt
+none_reckoned h rs t (Some (Aggregate a)) c e o = tt
+none_reckoned h rs t (Some (Block k by)) c e o = absurd (subst⁻¹ OtherThanBlock e o)
+none_reckoned h rs t (Some (Event x)) c e o = tt
+none_reckoned h rs t (Some (Timer z)) c e o = tt
+none_reckoned h rs t (Some (TheAction p)) c e o = tt
+none_reckoned h rs t None c e o = tt
 
-or_other : {A : Type 0} (f : A → RulesCandidate) → ((a : A) → OtherThanBlock (f a)) → (o : Option A) → OtherThanBlock (or_none f o)
+or_other : {A : Type 0} (f : A → RulesCandidate) → ((a : A) → OtherThanBlock (f a)) → (o : RulesOption A) → OtherThanBlock (or_none f o)
 unfolding OtherThanBlock
 or_other f p none = tt
 or_other f p (some a) = p a
@@ -118,23 +88,23 @@ chose_1 b x y e = sym (ap (λ (c : Bool). if c then x else y) e)
 chose_2 : {A : Type 0} (b : Bool) (x y : A) → b ≡ false → y ≡ (if b then x else y)
 chose_2 b x y e = sym (ap (λ (c : Bool). if c then x else y) e)
 
-module _ (h rs : List ℕ) (t : ℕ) (d : Delays) (r : Next) where
-  module _ (x : Bool) (ex : x ≡ event_first (delays_of d)) where
-    pub later_event :
-        x ≡ true → PeekedBoth h rs d.found (offered (state_from h rs) t) → ((hs ws : List ℕ) (o : Option Head) → PeekedBoth hs ws d.found o → Picked hs ws r (or_none an_event o))
-        → Picked h rs r (later_fitting (state_from h rs) t (delays_of d))
-    later_event e p q = moved h rs r _ _ (q h rs _ p) (chose_1 (event_first (delays_of d)) _ _ (sym ex ∙ e))
+pub later_event :
+    (v : Words) (t : ℕ) (d : Delays) (r : Option Candidate) (x : Bool) → x ≡ event_first (delays_of d) → x ≡ true → PeekedBothIn v d.found (offered (state_in v) t)
+    → ((u : Words) (o : RulesOption Head) → PeekedBothIn u d.found o → PickedIn u r (or_none an_event o)) → PickedIn v r (later_fitting (state_in v) t (delays_of d))
+later_event v t d r x ex e p q = moved v.header.now v.records.now r _ _ (q v _ p) (chose_1 (event_first (delays_of d)) _ _ (sym ex ∙ e))
 
+module _ (h rs : List ℕ) (t : ℕ) (d : Delays) (r : Option Candidate) where
+  module _ (x : Bool) (ex : x ≡ event_first (delays_of d)) where
     module _ (y : Bool) (e : x ≡ false) (ey : y ≡ (delay_of d.i ≤ᵈ delay_of d.s)) where
-      pub later_timer : y ≡ true → ((ws : List ℕ) → Picked h ws r (due_timer (state_from h ws) t (delay_of d.i))) → Picked h rs r (later_fitting (state_from h rs) t (delays_of d))
+      pub later_timer : y ≡ true → Picked h rs r (due_timer (state_from h rs) t (delay_of d.i)) → Picked h rs r (later_fitting (state_from h rs) t (delays_of d))
       unfolding delays_of
       later_timer f p =
-          moved h rs r _ _ (p rs) (chose_1 (delay_of d.i ≤ᵈ delay_of d.s) _ _ (sym ey ∙ f) ∙ chose_2 (event_first (delays_of d)) (or_none an_event (offered (state_from h rs) t)) _ (sym ex ∙ e))
+          moved h rs r _ _ p (chose_1 (delay_of d.i ≤ᵈ delay_of d.s) _ _ (sym ey ∙ f) ∙ chose_2 (event_first (delays_of d)) (or_none an_event (offered (state_from h rs) t)) _ (sym ex ∙ e))
 
-      pub later_action : y ≡ false → ((ws : List ℕ) → Picked h ws r (due_action (state_from h ws) t (delay_of d.s))) → Picked h rs r (later_fitting (state_from h rs) t (delays_of d))
+      pub later_action : y ≡ false → Picked h rs r (due_action (state_from h rs) t (delay_of d.s)) → Picked h rs r (later_fitting (state_from h rs) t (delays_of d))
       unfolding delays_of
       later_action f p =
-          moved h rs r _ _ (p rs) (chose_2 (delay_of d.i ≤ᵈ delay_of d.s) _ _ (sym ey ∙ f) ∙ chose_2 (event_first (delays_of d)) (or_none an_event (offered (state_from h rs) t)) _ (sym ex ∙ e))
+          moved h rs r _ _ p (chose_2 (delay_of d.i ≤ᵈ delay_of d.s) _ _ (sym ey ∙ f) ∙ chose_2 (event_first (delays_of d)) (or_none an_event (offered (state_from h rs) t)) _ (sym ex ∙ e))
 
   module _ (ed : delays_of d ≡ delays (state_from h rs) t) (x : Bool) (ex : x ≡ aggregate_first (delays_of d)) where
     fitting_is : first_fitting (state_from h rs) t (delays_of d) ≡ candidate (state_from h rs) t

@@ -3,13 +3,13 @@ use Prim.Native.Nat.{ℕ, zero, suc, max, ◌+◌, ◌^◌, ◌<◌}
 use mathlib.Core.Path.{◌≡◌, refl, sym, ap, subst, ◌∙◌}
 use mathlib.Core.Bool.{Bool, true, false}
 use mathlib.Core.List.{List, head?, map}
-use mathlib.Core.Option.{Option, none, some}
+use mathlib.Core.Option.{Option as RulesOption, none, some}
 use native.Mathlib.Omega.{arith}
 use lib.Dec.{ltb}
-use Rattle.std.specs.Prelude.{if◌then◌else◌}
-use Rattle.rules.specs.State.{State, side}
+use Rattle.std.specs.Prelude.{if◌then◌else◌, Option, Some, None}
+use Rattle.rules.specs.State.{SideState, State, side}
 use Rattle.rules.specs.ChoiceHeads.{Head as RulesHead, waiting_head}
-use Rattle.rules.specs.ChoiceDelays.{next_block, first_block, Block}
+use Rattle.rules.specs.ChoiceDelays.{next_block, first_block, Block, action_moments}
 use Rattle.rules.specs.ChoiceRound.{Slot, or_none, an_aggregate, a_block, an_event, a_timer, due_timer, due_action, timer_slot, action_slot, action_from, end_moment, held_up_length, Candidate as RulesCandidate}
 use Rattle.moment.specs.declared.Length.{Length}
 use Rattle.moment.specs.declared.Moment.{Moment}
@@ -21,32 +21,25 @@ use Rattle.queue_event.specs.Values.{read_aggregate}
 use Rattle.layout.specs.Records.{head_of, count_of}
 use Rattle.layout.specs.Layout.{side_at, aggregate_from, held_aggregate, state_from}
 use Rattle.queue.specs.declared.peek.Head.{Head}
-use Rattle.queue.specs.declared.peek.Found.{Found}
-use Rattle.queue.specs.declared.peek.Found.TheVariants.{Nothing as NotFound, At}
+use Rattle.queue.specs.declared.view.Words.{Words}
+use Rattle.queue.specs.Views.{state_in}
+use Rattle.queue.proofs.SlotLaws.{timers_sixteen, actions_sixteen}
 use Rattle.queue.specs.Heads.{found_of, side_held, PeekedBoth}
-use Rattle.queue_peek.specs.declared.order.Delay.{Delay}
-use Rattle.queue_peek.specs.declared.order.Delay.TheVariants.{Absent, In}
 use Rattle.queue_peek.specs.declared.blocks.BlockEnd.{BlockEnd}
-use Rattle.queue_peek.specs.declared.blocks.Blocked.{Blocked}
-use Rattle.queue_peek.specs.declared.blocks.Blocked.TheVariants.{Nothing as NotBlocked, Until}
 use Rattle.queue_peek.specs.Decoded.{delay_of, block_from, blocked_of}
-use Rattle.delay.specs.declared.Delayed.{Delayed}
 use Rattle.delay.specs.Tests.{delayed_of}
 use Rattle.queue_event.proofs.Laws.{nodes_next}
 use Rattle.layout.proofs.Banks.{chains_at}
 use Rattle.queue.proofs.HeadsOrder.{stands_on_at}
 use Rattle.candidate.specs.declared.Due.{Due}
-use Rattle.candidate.specs.declared.FirstDue.{FirstDue}
-use Rattle.candidate.specs.declared.FirstDue.TheVariants.{At as AtSlot, Nothing as NoSlot}
-use Rattle.candidate.specs.declared.Next.{Next}
-use Rattle.candidate.specs.declared.Next.TheVariants.{Take, Nothing}
 use Rattle.candidate.specs.declared.Candidate.TheVariants.{Aggregate as AnAggregate, Block as ABlock, Event as AnEvent, Timer as ATimer}
+use Rattle.candidate.specs.declared.Candidate.{Candidate}
 use Rattle.candidate.specs.Candidates.{due_slot, candidate_of, next_of, Stands, Reckoned, NextStands, NextReckoned}
-use Rattle.candidate.specs.Promises.{due_of, DueWhen, DueTimer, DueAction, Picked, TakenUp, Ahead}
-use Rattle.candidate.proofs.SlotLaws.{timer_one}
+use Rattle.candidate.specs.Promises.{due_of, DueWhen, DueIn, Picked, TakenUp, Ahead}
+use Rattle.candidate.proofs.SlotLaws.{due_one}
 
 -- the same of an equal candidate
-pub moved : (h rs : List ℕ) (r : Next) (c d : RulesCandidate) → Picked h rs r c → c ≡ d → Picked h rs r d
+pub moved : (h rs : List ℕ) (r : Option Candidate) (c d : RulesCandidate) → Picked h rs r c → c ≡ d → Picked h rs r d
 moved h rs r c d p e = record { is = p.is ∙ e; stands = p.stands }
 
 -- ---- the first aggregate
@@ -64,13 +57,13 @@ module _ (h rs : List ℕ) (m : ℕ) (em : m ≡ count_of h 11) where
   unfolding state_from
   aggregates_are = ap (λ l. head? (map held_aggregate l)) (ap (λ i. nodes rs i (head_of h 11)) em ∙ sym (chains_at h rs 11 (omega arith)))
 
-  pub aggregate_none : m ≡ 0 → Picked h rs Nothing (or_none an_aggregate (head? (state_from h rs).aggregates))
+  pub aggregate_none : m ≡ 0 → Picked h rs None (or_none an_aggregate (head? (state_from h rs).aggregates))
   unfolding next_of NextStands nodes
   aggregate_none z =
       record { is = ap (or_none an_aggregate) (sym (ap (λ i. head? (map held_aggregate (nodes rs i (head_of h 11)))) z) ∙ aggregates_are); stands = tt }
 
   pub aggregate_some : (m ≡ 0 → ⊥) → (p : ℕ) (a : AggregateDelay) → p ≡ head_of h 11 → a ≡ read_aggregate (rec_at rs p)
-      → Picked h rs (Take (AnAggregate a)) (or_none an_aggregate (head? (state_from h rs).aggregates))
+      → Picked h rs (Some (AnAggregate a)) (or_none an_aggregate (head? (state_from h rs).aggregates))
   unfolding next_of NextStands candidate_of Stands
   aggregate_some ne p a ep ea =
       record {
@@ -82,7 +75,7 @@ module _ (h rs : List ℕ) (m : ℕ) (em : m ≡ count_of h 11) where
 
 -- ---- the next block to end
 
-Ends : State → Option Block → Type 0
+Ends : State → RulesOption Block → Type 0
 Ends s none = Unit {0}
 Ends s (some k) = (side s k.side).block_end ≡ some k.end
 
@@ -90,7 +83,7 @@ next_ends : (s : State) → Ends s (next_block s)
 unfolding Ends
 next_ends s = go s.client.block_end s.server.block_end refl refl
   where
-    go : (c r : Option ℕ) → s.client.block_end ≡ c → s.server.block_end ≡ r → Ends s (first_block c r)
+    go : (c r : RulesOption ℕ) → s.client.block_end ≡ c → s.server.block_end ≡ r → Ends s (first_block c r)
     go none none ec er = tt
     go (some c) none ec er = ec
     go none (some r) ec er = er
@@ -100,17 +93,17 @@ next_ends s = go s.client.block_end s.server.block_end refl refl
         choose true = ec
         choose false = er
 
-module _ (h rs : List ℕ) (t : ℕ) (k : Blocked) (ek : (ws : List ℕ) → blocked_of k ≡ next_block (state_from h ws)) where
-  pub block_none : k ≡ NotBlocked → TakenUp h rs t Nothing (or_none a_block (next_block (state_from h rs)))
+module _ (h rs : List ℕ) (t : ℕ) (k : Option BlockEnd) (ek : blocked_of k ≡ next_block (state_from h rs)) where
+  pub block_none : k ≡ None → TakenUp h rs t None (or_none a_block (next_block (state_from h rs)))
   unfolding next_of NextStands NextReckoned blocked_of
-  block_none e = record { picked = record { is = ap (or_none a_block) (ap blocked_of (sym e) ∙ ek rs); stands = tt }; reckoned = tt }
+  block_none e = record { picked = record { is = ap (or_none a_block) (ap blocked_of (sym e) ∙ ek); stands = tt }; reckoned = tt }
 
-  pub block_some : (z : BlockEnd) (end : ℕ) (by : Delayed) → k ≡ Until z → end ≡ max z.end.0 t
+  pub block_some : (z : BlockEnd) (end : ℕ) (by : Option Length) → k ≡ Some z → end ≡ max z.end.0 t
       → delayed_of by ≡ held_up_length (side_held h rs z.client) end (waiting_head false (side_held h rs z.client))
-      → TakenUp h rs t (Take (ABlock z by)) (or_none a_block (next_block (state_from h rs)))
+      → TakenUp h rs t (Some (ABlock z by)) (or_none a_block (next_block (state_from h rs)))
   unfolding next_of NextStands NextReckoned candidate_of Stands Reckoned blocked_of Ends
   block_some z end by e ee eb =
-      let q = ap blocked_of (sym e) ∙ ek rs in
+      let q = ap blocked_of (sym e) ∙ ek in
       let late : end ≡ end_moment t (block_from z) = omega arith in
       record {
         picked = record { is = ap (or_none a_block) q; stands = subst (Ends (state_from h rs)) (sym q) (next_ends (state_from h rs)) };
@@ -119,63 +112,69 @@ module _ (h rs : List ℕ) (t : ℕ) (k : Blocked) (ek : (ws : List ℕ) → blo
 
 -- ---- what the queues offer
 
-module _ (f : Found) where
-  pub event_none : f ≡ NotFound → (h rs : List ℕ) (o : Option RulesHead) → PeekedBoth h rs f o → Picked h rs Nothing (or_none an_event o)
+module _ (f : Option Head) where
+  pub event_none : f ≡ None → (h rs : List ℕ) (o : RulesOption RulesHead) → PeekedBoth h rs f o → Picked h rs None (or_none an_event o)
   unfolding next_of NextStands found_of
   event_none e h rs o p = record { is = ap (or_none an_event) (ap found_of (sym e) ∙ p.is); stands = tt }
 
-  pub event_some : (x : Head) → f ≡ At x → (h rs : List ℕ) (o : Option RulesHead) → PeekedBoth h rs f o → Picked h rs (Take (AnEvent x)) (or_none an_event o)
+  pub event_some : (x : Head) → f ≡ Some x → (h rs : List ℕ) (o : RulesOption RulesHead) → PeekedBoth h rs f o → Picked h rs (Some (AnEvent x)) (or_none an_event o)
   unfolding next_of NextStands candidate_of Stands found_of
   event_some x e h rs o p = record { is = ap (or_none an_event) (ap found_of (sym e) ∙ p.is); stands = stands_on_at h rs f x e p.stands }
 
 -- ---- the timer and the action that are due
 
-pub ahead_fits : (t : ℕ) (i : Delay) (l : Length) → Ahead t (delay_of i) → i ≡ In l → t + l.0 < 2 ^ 64
+pub ahead_fits : (t : ℕ) (i : Option Length) (l : Length) → Ahead t (delay_of i) → i ≡ Some l → t + l.0 < 2 ^ 64
 unfolding Ahead delay_of
-ahead_fits t i l a e = let b : Ahead t (delay_of (In l)) = subst (λ (x : Delay). Ahead t (delay_of x)) e a in omega arith
+ahead_fits t i l a e = let b : Ahead t (delay_of (Some l)) = subst (λ (x : Option Length). Ahead t (delay_of x)) e a in omega arith
 
-module _ (h : List ℕ) (t : ℕ) (i : Delay) where
-  pub timer_absent : i ≡ Absent → (rs : List ℕ) → Picked h rs Nothing (due_timer (state_from h rs) t (delay_of i))
+module _ (h rs : List ℕ) (t : ℕ) (i : Option Length) where
+  pub timer_absent : i ≡ None → Picked h rs None (due_timer (state_from h rs) t (delay_of i))
   unfolding next_of NextStands delay_of
-  timer_absent e rs = record { is = ap (λ (x : Delay). due_timer (state_from h rs) t (delay_of x)) (sym e); stands = tt }
+  timer_absent e = record { is = ap (λ (x : Option Length). due_timer (state_from h rs) t (delay_of x)) (sym e); stands = tt }
 
-  pub action_absent : i ≡ Absent → (rs : List ℕ) → Picked h rs Nothing (due_action (state_from h rs) t (delay_of i))
+  pub action_absent : i ≡ None → Picked h rs None (due_action (state_from h rs) t (delay_of i))
   unfolding next_of NextStands delay_of
-  action_absent e rs = record { is = ap (λ (x : Delay). due_action (state_from h rs) t (delay_of x)) (sym e); stands = tt }
+  action_absent e = record { is = ap (λ (x : Option Length). due_action (state_from h rs) t (delay_of x)) (sym e); stands = tt }
 
-  module _ (l : Length) (u : Moment) (f : FirstDue) (e : i ≡ In l) (eu : u.0 ≡ t + l.0) where
-    module _ (p : DueTimer h u.0 f) where
-      timer_is : (rs : List ℕ) → or_none (λ (z : Slot). a_timer z u.0) (due_of f) ≡ due_timer (state_from h rs) t (delay_of i)
+  module _ (l : Length) (u : Moment) (f : Option Due) (e : i ≡ Some l) (eu : u.0 ≡ t + l.0) where
+    module _ (p : DueIn (λ (x : SideState). x.timers) (state_from h rs) u.0 f) where
+      timer_is : or_none (λ (z : Slot). a_timer z u.0) (due_of f) ≡ due_timer (state_from h rs) t (delay_of i)
       unfolding delay_of
-      timer_is rs =
-          ap (or_none (λ (z : Slot). a_timer z u.0)) (p.is rs)
+      timer_is =
+          ap (or_none (λ (z : Slot). a_timer z u.0)) p.is
           ∙ ap (λ n. or_none (λ (z : Slot). a_timer z n) (timer_slot (state_from h rs) n)) eu
-          ∙ ap (λ (x : Delay). due_timer (state_from h rs) t (delay_of x)) (sym e)
+          ∙ ap (λ (x : Option Length). due_timer (state_from h rs) t (delay_of x)) (sym e)
 
-      pub timer_some : (d : Due) → f ≡ AtSlot d → (rs : List ℕ) → Picked h rs (Take (ATimer d)) (due_timer (state_from h rs) t (delay_of i))
+      pub timer_some : (d : Due) → f ≡ Some d → d.machine < 16 → Picked h rs (Some (ATimer d)) (due_timer (state_from h rs) t (delay_of i))
       unfolding next_of NextStands candidate_of Stands due_of DueWhen
-      timer_some d x rs =
+      timer_some d x one =
           record {
-            is = ap (a_timer (due_slot d)) (subst (DueWhen u.0) x p.when) ∙ ap (λ (y : FirstDue). or_none (λ (z : Slot). a_timer z u.0) (due_of y)) (sym x) ∙ timer_is rs;
-            stands = timer_one h u.0 f d x p;
+            is = ap (a_timer (due_slot d)) (subst (DueWhen u.0) x p.when) ∙ ap (λ (y : Option Due). or_none (λ (z : Slot). a_timer z u.0) (due_of y)) (sym x) ∙ timer_is;
+            stands = one;
           }
 
-      pub timer_none : f ≡ NoSlot → (rs : List ℕ) → Picked h rs Nothing (due_timer (state_from h rs) t (delay_of i))
+      pub timer_none : f ≡ None → Picked h rs None (due_timer (state_from h rs) t (delay_of i))
       unfolding next_of NextStands due_of
-      timer_none x rs = record { is = ap (λ (y : FirstDue). or_none (λ (z : Slot). a_timer z u.0) (due_of y)) (sym x) ∙ timer_is rs; stands = tt }
+      timer_none x = record { is = ap (λ (y : Option Due). or_none (λ (z : Slot). a_timer z u.0) (due_of y)) (sym x) ∙ timer_is; stands = tt }
 
-    module _ (p : DueAction h u.0 f) where
-      action_is : (rs : List ℕ) → or_none (action_from (state_from h rs)) (due_of f) ≡ due_action (state_from h rs) t (delay_of i)
+    module _ (p : DueIn action_moments (state_from h rs) u.0 f) where
+      action_is : or_none (action_from (state_from h rs)) (due_of f) ≡ due_action (state_from h rs) t (delay_of i)
       unfolding delay_of
-      action_is rs =
-          ap (or_none (action_from (state_from h rs))) (p.is rs ∙ ap (action_slot (state_from h rs)) eu)
-          ∙ ap (λ (x : Delay). due_action (state_from h rs) t (delay_of x)) (sym e)
+      action_is =
+          ap (or_none (action_from (state_from h rs))) (p.is ∙ ap (action_slot (state_from h rs)) eu)
+          ∙ ap (λ (x : Option Length). due_action (state_from h rs) t (delay_of x)) (sym e)
 
-      pub action_some : (r : Next) (d : Due) → f ≡ AtSlot d → ((rs : List ℕ) → Picked h rs r (action_from (state_from h rs) (due_slot d)))
-          → (rs : List ℕ) → Picked h rs r (due_action (state_from h rs) t (delay_of i))
+      pub action_some : (r : Option Candidate) (d : Due) → f ≡ Some d → Picked h rs r (action_from (state_from h rs) (due_slot d)) → Picked h rs r (due_action (state_from h rs) t (delay_of i))
       unfolding due_of
-      action_some r d x q rs = moved h rs r _ _ (q rs) (ap (λ (y : FirstDue). or_none (action_from (state_from h rs)) (due_of y)) (sym x) ∙ action_is rs)
+      action_some r d x q = moved h rs r _ _ q (ap (λ (y : Option Due). or_none (action_from (state_from h rs)) (due_of y)) (sym x) ∙ action_is)
 
-      pub action_none : f ≡ NoSlot → (rs : List ℕ) → Picked h rs Nothing (due_action (state_from h rs) t (delay_of i))
+      pub action_none : f ≡ None → Picked h rs None (due_action (state_from h rs) t (delay_of i))
       unfolding next_of NextStands due_of
-      action_none x rs = record { is = ap (λ (y : FirstDue). or_none (action_from (state_from h rs)) (due_of y)) (sym x) ∙ action_is rs; stands = tt }
+      action_none x = record { is = ap (λ (y : Option Due). or_none (action_from (state_from h rs)) (due_of y)) (sym x) ∙ action_is; stands = tt }
+
+-- the machine of what is due in view
+pub timer_one : (w : Words) (t : ℕ) (r : Option Due) (d : Due) → DueIn (λ (x : SideState). x.timers) (state_in w) t r → r ≡ Some d → d.machine < 16
+timer_one w t r d p e = due_one (λ (x : SideState). x.timers) (state_in w) t r d (timers_sixteen w true) (timers_sixteen w false) p e
+
+pub action_one : (w : Words) (t : ℕ) (r : Option Due) (d : Due) → DueIn action_moments (state_in w) t r → r ≡ Some d → d.machine < 16
+action_one w t r d p e = due_one action_moments (state_in w) t r d (actions_sixteen w true) (actions_sixteen w false) p e

@@ -1,11 +1,12 @@
 -- An action read from its three words, and as what a round takes up. Assumes nothing.
 use Prim.Native.Nat.{ℕ, zero, suc, ◌+◌, ◌*◌, ◌/◌, ◌%◌, ◌<◌}
 use mathlib.Core.Path.{◌≡◌, refl, sym, ap, ◌∙◌}
-use mathlib.Core.Bool.{Bool, true, false}
+use mathlib.Core.Bool.{Bool}
 use mathlib.Core.List.{List}
 use mathlib.Core.Option.{none, some}
 use native.Mathlib.Omega.{arith}
 use lib.ListN.{get_or}
+use Rattle.std.specs.Prelude.{Some, None}
 use Rattle.rules.specs.ChoiceRound.{action_in, or_none, an_action, action_from as action_from_slot}
 use Rattle.event.specs.declared.ScheduledAction.{ScheduledAction}
 use Rattle.event.specs.HandedIn.{side_of}
@@ -13,18 +14,10 @@ use Rattle.queue_event.specs.Tag.{flag}
 use Rattle.layout.specs.Changes.{side_no}
 use Rattle.layout.specs.Layout.{action_from, firsts, state_from}
 use Rattle.candidate.specs.declared.Due.{Due}
-use Rattle.candidate.specs.declared.Next.TheVariants.{Take, Nothing}
 use Rattle.candidate.specs.declared.Candidate.TheVariants.{Action as TheAction}
 use Rattle.candidate.specs.Candidates.{due_slot, action_value, candidate_of, next_of, Stands, NextStands}
 use Rattle.candidate.specs.Promises.{planned_in, Picked}
 use Rattle.candidate.proofs.SlotLaws.{actions_are, action_words}
-
-pub flag_zero : (n : ℕ) → n ≡ 0 → false ≡ flag n
-flag_zero n e = sym (ap flag e)
-
-pub flag_more : (n : ℕ) → (n ≡ 0 → ⊥) → true ≡ flag n
-flag_more zero d = absurd (d refl)
-flag_more (suc n) d = refl
 
 -- ---- the words
 
@@ -51,18 +44,21 @@ get_d_firsts (suc n) f (suc m) d l = get_d_firsts n (λ i. f (suc i)) m d (omega
 pub planned_in_lem : (h rs : List ℕ) (b : Bool) (m : ℕ) → m < 16 → action_in (state_from h rs) (record { side = side_of b; machine = m }) ≡ planned_in h b m
 planned_in_lem h rs b m l = ap (λ x. get_or x m none) (actions_are h rs b) ∙ get_d_firsts 16 (planned_in h b) m none l
 
-module _ (h : List ℕ) (d : Due) (at : ℕ) (l : d.machine < 16) (e : at ≡ 96 + 3 * (16 * side_no (side_of d.client) + d.machine)) where
-  held_is : (rs : List ℕ) → action_from (get_or h at 0) (get_or h (at + 1) 0) (get_or h (at + 2) 0) ≡ action_in (state_from h rs) (due_slot d)
-  held_is rs = action_words h d.client d.machine at l e ∙ sym (planned_in_lem h rs d.client d.machine l)
+module _ (h rs : List ℕ) (d : Due) (j : ℕ) (l : d.machine < 16) (ej : j ≡ 16 * side_no (side_of d.client) + d.machine) where
+  e : 96 + 3 * j ≡ 96 + 3 * (16 * side_no (side_of d.client) + d.machine)
+  e = ap (λ i. 96 + 3 * i) ej
 
-  pub planned_none : get_or h at 0 ≡ 0 → (rs : List ℕ) → Picked h rs Nothing (action_from_slot (state_from h rs) (due_slot d))
+  held_is : action_from (get_or h (96 + 3 * j) 0) (get_or h (96 + 3 * j + 1) 0) (get_or h (96 + 3 * j + 2) 0) ≡ action_in (state_from h rs) (due_slot d)
+  held_is = action_words h d.client d.machine (96 + 3 * j) l e ∙ sym (planned_in_lem h rs d.client d.machine l)
+
+  pub planned_none : get_or h (96 + 3 * j) 0 ≡ 0 → Picked h rs None (action_from_slot (state_from h rs) (due_slot d))
   unfolding next_of NextStands
-  planned_none z rs = record { is = ap (or_none (an_action (due_slot d))) (sym (read_none (get_or h at 0) (get_or h (at + 1) 0) (get_or h (at + 2) 0) z) ∙ held_is rs); stands = tt }
+  planned_none z = record { is = ap (or_none (an_action (due_slot d))) (sym (read_none (get_or h (96 + 3 * j) 0) (get_or h (96 + 3 * j + 1) 0) (get_or h (96 + 3 * j + 2) 0) z) ∙ held_is); stands = tt }
 
-  pub planned_some : (a : ScheduledAction) → (get_or h at 0 ≡ 0 → ⊥) → a ≡ action_read (get_or h at 0) (get_or h (at + 1) 0) (get_or h (at + 2) 0)
-      → (rs : List ℕ) → Picked h rs (Take (TheAction (record { client = d.client; machine = d.machine; action = a }))) (action_from_slot (state_from h rs) (due_slot d))
+  pub planned_some : (a : ScheduledAction) → (get_or h (96 + 3 * j) 0 ≡ 0 → ⊥) → a ≡ action_read (get_or h (96 + 3 * j) 0) (get_or h (96 + 3 * j + 1) 0) (get_or h (96 + 3 * j + 2) 0)
+      → Picked h rs (Some (TheAction (record { client = d.client; machine = d.machine; action = a }))) (action_from_slot (state_from h rs) (due_slot d))
   unfolding next_of NextStands candidate_of Stands
-  planned_some a ne ea rs = record { is = ap (or_none (an_action (due_slot d))) held; stands = (l, sym held, ap (λ (x : ScheduledAction). x.kind.0) ea ∙ ap (λ (i : ℕ). get_or h i 0 % 4) e) }
+  planned_some a ne ea = record { is = ap (or_none (an_action (due_slot d))) held; stands = (l, sym held, ap (λ (x : ScheduledAction). x.kind.0) ea ∙ ap (λ (i : ℕ). get_or h i 0 % 4) e) }
     where
       held : some (action_value a) ≡ action_in (state_from h rs) (due_slot d)
-      held = ap (λ (x : ScheduledAction). some (action_value x)) ea ∙ sym (read_some (get_or h at 0) (get_or h (at + 1) 0) (get_or h (at + 2) 0) ne) ∙ held_is rs
+      held = ap (λ (x : ScheduledAction). some (action_value x)) ea ∙ sym (read_some (get_or h (96 + 3 * j) 0) (get_or h (96 + 3 * j + 1) 0) (get_or h (96 + 3 * j + 2) 0) ne) ∙ held_is

@@ -7,8 +7,9 @@ use mathlib.Core.Option.{none}
 use native.Mathlib.Omega.{arith}
 use lib.Dec.{leb, ltb}
 use lib.ListN.{get_or}
-use borrow.Author.Tests.{not-true, not-false, le-leb, lt-leb, leb-true, leb-false}
-use Rattle.std.specs.Prelude.{if◌then◌else◌}
+use borrow.Author.Tests.{not-true, not-false, lt-leb, leb-true, leb-false}
+use Rattle.std.proofs.lemmas.Grind.{common_steps}
+use Rattle.std.specs.Prelude.{nat_lt, if◌then◌else◌, Option, Some, None}
 use Rattle.rules.specs.Limits.{moment_limit, duration_limit}
 use Rattle.rules.specs.Aggregates.{base_moment, on_expire, aggregates_of, some_sum}
 use Rattle.rules.specs.ChoiceHeads.{waiting_head}
@@ -19,15 +20,16 @@ use Rattle.layout.specs.Header.{Limited}
 use Rattle.layout.specs.Changes.{side_no}
 use Rattle.layout.specs.Layout.{bank, state_from}
 use Rattle.queue.specs.declared.peek.Head.{Head}
-use Rattle.queue.specs.declared.peek.Found.{Found}
-use Rattle.queue.specs.declared.peek.Found.TheVariants.{Nothing as NotFound, At as FoundAt}
 use Rattle.queue.specs.Heads.{found_of, head_from, side_held, Peeked}
 use Rattle.queue_peek.specs.declared.blocks.BlockEnd.{BlockEnd}
 use Rattle.queue_peek.specs.Decoded.{block_from}
-use Rattle.delay.specs.declared.Base.{Base}
 use Rattle.delay.specs.declared.Margins.{Margins}
-use Rattle.delay.specs.declared.Delayed.{Delayed}
-use Rattle.delay.specs.Tests.{base_of, delayed_of, usual_margins, expire_over}
+use Rattle.moment.specs.declared.Length.{Length}
+use Rattle.moment.specs.declared.Moment.{Moment}
+use Rattle.moment.proofs.Order.{ge_is}
+use Rattle.std.specs.Ordering.{is_ge, nat_cmp}
+use Rattle.queue.specs.Views.{moment_no}
+use Rattle.delay.specs.Tests.{delayed_of, usual_margins, expire_over}
 use Rattle.network.specs.Due.{moments}
 use Rattle.queue.proofs.HeadsSides.{sum_held}
 use Rattle.delay.proofs.Rules.{expire_usual}
@@ -41,6 +43,10 @@ and_one false = refl
 and_none : (t : Bool) → t && false ≡ false
 and_none true = refl
 and_none false = refl
+
+not_not : (t : Bool) → not (not t) ≡ t
+not_not true = refl
+not_not false = refl
 
 -- ---- words within their limits
 
@@ -61,51 +67,54 @@ network_within h l = l 0 (omega arith)
 
 -- ---- the base head plus the sum
 
-pub base_sum : (h rs : List ℕ) (b : Bool) (sum : ℕ) (o : Base) (r : Bool) → sum ≡ get_or h (10 + side_no (side_of b)) 0 → base_of o ≡ base_moment sum (side_held h rs b).queues.base
-    → r ≡ fits (some_sum (base_of o)) → r ≡ fits (some_sum (base_moment (side_held h rs b).sum (side_held h rs b).queues.base))
+pub base_sum : (h rs : List ℕ) (b : Bool) (sum : ℕ) (o : Option Moment) (r : Bool) → sum ≡ get_or h (10 + side_no (side_of b)) 0 → moment_no o ≡ base_moment sum (side_held h rs b).queues.base
+    → r ≡ fits (some_sum (moment_no o)) → r ≡ fits (some_sum (base_moment (side_held h rs b).sum (side_held h rs b).queues.base))
 base_sum h rs b sum o r es eo er =
     er ∙ ap (λ x. fits (some_sum x)) (eo ∙ ap (λ n. base_moment n (side_held h rs b).queues.base) (es ∙ sym (sum_held h rs (side_of b))))
 
 -- ---- the sums of every round
 
-module _ (h rs : List ℕ) (limit : ℕ) (el : limit ≡ moment_limit) where
+module _ (h rs : List ℕ) where
   always_is : fits (always_sums (state_from h rs))
       ≡ leb (get_or h 17 0 + 1) moment_limit
       && (fits (some_sum (base_moment (side_held h rs true).sum (side_held h rs true).queues.base)) && fits (some_sum (base_moment (side_held h rs false).sum (side_held h rs false).queues.base)))
   unfolding always_sums fits state_from bank
   always_is = ap (λ x. leb (get_or h 17 0 + 1) moment_limit && x) (fits_append (some_sum (base_moment (side_held h rs true).sum (side_held h rs true).queues.base)) (some_sum (base_moment (side_held h rs false).sum (side_held h rs false).queues.base)))
 
-  pub always_full : limit ≤ get_or h 17 0 → false ≡ fits (always_sums (state_from h rs))
-  always_full l = sym (always_is ∙ rw (lt-leb (get_or h 17 0 + 1) moment_limit (omega arith)))
+  and_right : (a b c : Bool) → ((a && b) && c) ≡ (a && (b && c))
+  and_right true b c = refl
+  and_right false b c = refl
 
-  module _ (x : Bool) (ex : x ≡ fits (some_sum (base_moment (side_held h rs true).sum (side_held h rs true).queues.base))) where
-    pub always_client : not x ≡ true → false ≡ fits (always_sums (state_from h rs))
-    always_client f = sym (always_is ∙ rw (sym ex ∙ not-true x f) (and_none (leb (get_or h 17 0 + 1) moment_limit)))
+  below : (n m : ℕ) → nat_lt n m ≡ leb (n + 1) m
+  below n m = grind (arith, common_steps)
 
-    pub always_server : (y : Bool) → get_or h 17 0 < limit → not x ≡ false → y ≡ fits (some_sum (base_moment (side_held h rs false).sum (side_held h rs false).queues.base)) → y ≡ fits (always_sums (state_from h rs))
-    always_server y l f ey = ey ∙ sym (always_is ∙ rw (le-leb (get_or h 17 0 + 1) moment_limit (omega arith), sym ex ∙ not-false x f))
+  pub always_all : (x y : Bool) → x ≡ fits (some_sum (base_moment (side_held h rs true).sum (side_held h rs true).queues.base)) → y ≡ fits (some_sum (base_moment (side_held h rs false).sum (side_held h rs false).queues.base))
+      → ((nat_lt (get_or h 17 0) moment_limit && x) && y) ≡ fits (always_sums (state_from h rs))
+  always_all x y ex ey = and_right (nat_lt (get_or h 17 0) moment_limit) x y ∙ (λ d. below (get_or h 17 0) moment_limit d && (ex d && ey d)) ∙ sym always_is
 
 -- ---- the test at a block's end
 
-module _ (h rs : List ℕ) (b : Bool) (end : ℕ) (f : Found) (p : Peeked h rs b f (waiting_head false (side_held h rs b))) where
-  pub held_none : f ≡ NotFound → none ≡ held_up_length (side_held h rs b) end (waiting_head false (side_held h rs b))
+module _ (h rs : List ℕ) (b : Bool) (end : ℕ) (f : Option Head) (p : Peeked h rs b f (waiting_head false (side_held h rs b))) where
+  pub held_none : f ≡ None → none ≡ held_up_length (side_held h rs b) end (waiting_head false (side_held h rs b))
   unfolding found_of
   held_none e = ap (held_up_length (side_held h rs b) end) (ap found_of (sym e) ∙ p.is)
 
-  module _ (w : Head) (r : Bool) (e : f ≡ FoundAt w) (er : r ≡ ltb w.moment.0 end) where
-    held_is : (if r then on_expire (side_held h rs b) end w.moment.0 else none) ≡ held_up_length (side_held h rs b) end (waiting_head false (side_held h rs b))
+  module _ (w : Head) (r : Bool) (e : f ≡ Some w) (er : r ≡ is_ge (nat_cmp w.moment.0 end)) where
+    held_is : (if not r then on_expire (side_held h rs b) end w.moment.0 else none) ≡ held_up_length (side_held h rs b) end (waiting_head false (side_held h rs b))
     unfolding found_of head_from
-    held_is = ap (λ (x : Bool). if x then on_expire (side_held h rs b) end w.moment.0 else none) er ∙ ap (held_up_length (side_held h rs b) end) (ap found_of (sym e) ∙ p.is)
+    held_is =
+        ap (λ (x : Bool). if x then on_expire (side_held h rs b) end w.moment.0 else none) (ap not (er ∙ ge_is w.moment.0 end) ∙ not_not (ltb w.moment.0 end))
+        ∙ ap (held_up_length (side_held h rs b) end) (ap found_of (sym e) ∙ p.is)
 
-    pub held_late : not r ≡ true → none ≡ held_up_length (side_held h rs b) end (waiting_head false (side_held h rs b))
-    held_late t = sym (ap (λ (x : Bool). if x then on_expire (side_held h rs b) end w.moment.0 else none) (not-true r t)) ∙ held_is
+    pub held_late : r ≡ true → none ≡ held_up_length (side_held h rs b) end (waiting_head false (side_held h rs b))
+    held_late t = sym (ap (λ (x : Bool). if not x then on_expire (side_held h rs b) end w.moment.0 else none) t) ∙ held_is
 
-    pub held_by : (sum : ℕ) (m : Margins) (d : Delayed) → not r ≡ false → sum ≡ get_or h (10 + side_no (side_of b)) 0 → m ≡ usual_margins
+    pub held_by : (sum : ℕ) (m : Margins) (d : Option Length) → r ≡ false → sum ≡ get_or h (10 + side_no (side_of b)) 0 → m ≡ usual_margins
         → delayed_of d ≡ expire_over m sum (side_held h rs b) end w.moment.0 → delayed_of d ≡ held_up_length (side_held h rs b) end (waiting_head false (side_held h rs b))
     held_by sum m d t es em ed =
         ed ∙ ap₂ (λ (x : Margins) (n : ℕ). expire_over x n (side_held h rs b) end w.moment.0) em (es ∙ sym (sum_held h rs (side_of b)))
         ∙ expire_usual (side_held h rs b) end w.moment.0
-        ∙ sym (ap (λ (x : Bool). if x then on_expire (side_held h rs b) end w.moment.0 else none) (not-false r t)) ∙ held_is
+        ∙ sym (ap (λ (x : Bool). if not x then on_expire (side_held h rs b) end w.moment.0 else none) t) ∙ held_is
 
 -- ---- an aggregate on top of its sum
 
@@ -154,20 +163,20 @@ module _ (h : List ℕ) (t : ℕ) (k : BlockEnd) (end : ℕ) (ee : end ≡ max k
   end_fits b w ew g l e = omega (arith, end_within l e, reporting_within h b w g ew)
 
   module _ (w : ℕ) (ew : w ≡ get_or h (6 + side_no (side_of k.client)) 0) where
-    module _ (n : ℕ) (x : Bool) (en : n ≡ end + w) (ex : x ≡ leb n moment_limit) (by : Delayed) where
+    module _ (n : ℕ) (x : Bool) (en : n ≡ end + w) (ex : x ≡ leb n moment_limit) (by : Option Length) where
       late : end ≡ t + (k.end.0 - t)
       late = omega arith
 
       sent : (rs : List ℕ) → leb ((t + (k.end.0 - t)) + (side_held h rs k.client).fixed.reporting_delay) moment_limit ≡ x
       sent rs = sym (ex ∙ ap (λ i. leb i moment_limit) (en ∙ ap₂ ◌+◌ late (ew ∙ sym (reporting_held h rs k.client))))
 
-      pub block_late : not x ≡ true → (rs : List ℕ) → delayed_of by ≡ held_up_at (state_from h rs) t (block_from k) → false ≡ fits (candidate_sums (state_from h rs) t (a_block (block_from k)))
+      pub block_late : x ≡ false → (rs : List ℕ) → delayed_of by ≡ held_up_at (state_from h rs) t (block_from k) → x ≡ fits (candidate_sums (state_from h rs) t (a_block (block_from k)))
       unfolding fits
-      block_late f rs eb = sym (ap (λ (b : Bool). b && fits (due_at h rs t k)) (sent rs ∙ not-true x f))
+      block_late f rs eb = f ∙ sym (ap (λ (b : Bool). b && fits (due_at h rs t k)) (sent rs ∙ f))
 
-      pub block_due : (r : Bool) → not x ≡ false → r ≡ fits (moments (aggregates_of (get_or h 0 0) (side_of k.client) end (delayed_of by)))
+      pub block_due : (r : Bool) → x ≡ true → r ≡ fits (moments (aggregates_of (get_or h 0 0) (side_of k.client) end (delayed_of by)))
           → (rs : List ℕ) → delayed_of by ≡ held_up_at (state_from h rs) t (block_from k) → r ≡ fits (candidate_sums (state_from h rs) t (a_block (block_from k)))
       unfolding fits
       block_due r f er rs eb =
           er ∙ (λ i. fits (moments (aggregates_of (sym (network_held h rs) i) (side_of k.client) (late i) (eb i))))
-          ∙ sym (ap (λ (b : Bool). b && fits (due_at h rs t k)) (sent rs ∙ not-false x f))
+          ∙ sym (ap (λ (b : Bool). b && fits (due_at h rs t k)) (sent rs ∙ f))

@@ -1,6 +1,6 @@
 -- The code's candidate as the rules' own, and what is known of one that was found. Assumes nothing.
-use Rattle.std.specs.Prelude.{ℕ, ◌+◌, ◌*◌, ◌%◌, ◌<◌, ◌≡◌, Bool, false, List}
-use Rattle.std.proofs.Math.Option.{Option, some}
+use Rattle.std.specs.Prelude.{ℕ, ◌+◌, ◌*◌, ◌%◌, ◌<◌, ◌≡◌, Bool, false, List, Option, Some, None}
+use Rattle.std.proofs.Math.Option.{Option as RulesOption, some}
 use Rattle.rules.specs.State.{Action, State, in_record, side}
 use Rattle.rules.specs.ChoiceHeads.{waiting_head}
 use Rattle.rules.specs.ChoiceDelays.{Block as EndingBlock}
@@ -18,8 +18,6 @@ use Rattle.candidate.specs.declared.Due.{Due}
 use Rattle.candidate.specs.declared.Planned.{Planned}
 use Rattle.candidate.specs.declared.Candidate.{Candidate}
 use Rattle.candidate.specs.declared.Candidate.TheVariants.{Aggregate, Block, Event, Timer, Action as TheAction}
-use Rattle.candidate.specs.declared.Next.{Next}
-use Rattle.candidate.specs.declared.Next.TheVariants.{Take, Nothing}
 
 -- ---- decoding
 
@@ -42,10 +40,10 @@ candidate_of h (Event x) = an_event (head_from x)
 candidate_of h (Timer d) = a_timer (due_slot d) d.moment.0
 candidate_of h (TheAction p) = an_action (planned_slot p) (action_value p.action)
 
--- `Next`
-unfoldable pub next_of : List ℕ → Next → RulesCandidate
-next_of h (Take c) = candidate_of h c
-next_of h Nothing = none_left
+-- a candidate, or none
+unfoldable pub next_of : List ℕ → Option Candidate → RulesCandidate
+next_of h (Some c) = candidate_of h c
+next_of h None = none_left
 
 -- ---- what is known of a candidate that was found in the words h and rs
 
@@ -62,7 +60,7 @@ Stands h rs (TheAction p) =
     (p.machine < 16) × (action_in (state_from h rs) (planned_slot p) ≡ some (action_value p.action)) × (p.action.kind.0 ≡ slot_kind h p.client p.machine)
 
 -- what the test at a block's end finds, where the round is made at the time t
-abbrev pub held_up_at : State → ℕ → EndingBlock → Option ℕ
+abbrev pub held_up_at : State → ℕ → EndingBlock → RulesOption ℕ
 held_up_at s t k = held_up_length (side s k.side) (end_moment t k) (waiting_head false (side s k.side))
 
 -- a block's end comes with it
@@ -73,11 +71,11 @@ Reckoned h rs t (Event x) = Unit {0}
 Reckoned h rs t (Timer d) = Unit {0}
 Reckoned h rs t (TheAction p) = Unit {0}
 
--- the same of `Next`
-unfoldable pub NextStands : List ℕ → List ℕ → Next → Type 0
-NextStands h rs (Take c) = Stands h rs c
-NextStands h rs Nothing = Unit {0}
+-- the same of one that may be none
+unfoldable pub NextStands : List ℕ → List ℕ → Option Candidate → Type 0
+NextStands h rs (Some c) = Stands h rs c
+NextStands h rs None = Unit {0}
 
-unfoldable pub NextReckoned : List ℕ → List ℕ → ℕ → Next → Type 0
-NextReckoned h rs t (Take c) = Reckoned h rs t c
-NextReckoned h rs t Nothing = Unit {0}
+unfoldable pub NextReckoned : List ℕ → List ℕ → ℕ → Option Candidate → Type 0
+NextReckoned h rs t (Some c) = Reckoned h rs t c
+NextReckoned h rs t None = Unit {0}

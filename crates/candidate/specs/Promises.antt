@@ -1,87 +1,74 @@
--- The slots that the loops look through, and what the functions promise beyond an equation. Assumes nothing.
-use Rattle.std.specs.Prelude.{ℕ, ◌+◌, ◌*◌, ◌≤◌, ◌<◌, ◌≡◌, Bool, false, List, eqb, if◌then◌else◌}
-use Rattle.std.proofs.Math.Option.{Option, none, some, map}
+-- What the functions promise beyond an equation. Assumes nothing.
+use Rattle.std.specs.Prelude.{ℕ, ◌+◌, ◌*◌, ◌≤◌, ◌≡◌, Bool, false, List, eqb, if◌then◌else◌, Option, Some, None}
+use Rattle.std.proofs.Math.Option.{Option as RulesOption, none, some}
 use Rattle.rules.specs.Basics.{after, absent, Delay}
-use Rattle.rules.specs.State.{Action, State}
+use Rattle.rules.specs.State.{Action, SideState, State}
 use Rattle.rules.specs.Limits.{moment_limit}
 use Rattle.rules.specs.ChoiceDelays.{Delays, offered}
-use Rattle.rules.specs.ChoiceRound.{Slot, Candidate, an_event, or_none, timer_slot, action_slot, due_timer, due_action, event_first, timer_first}
+use Rattle.rules.specs.ChoiceRound.{Slot, Candidate as RulesCandidate, an_event, or_none, slot_at, slot_of, due_timer, due_action, event_first, timer_first}
 use Rattle.event.specs.HandedIn.{side_of}
 use Rattle.layout.specs.Changes.{side_no}
-use Rattle.layout.specs.Layout.{state_from, bank, less_one, action_from}
-use Rattle.candidate.specs.declared.Machine.{Machine}
-use Rattle.candidate.specs.declared.Machine.TheVariants.{At as AtMachine, Nothing as NoMachine}
-use Rattle.candidate.specs.declared.FirstDue.{FirstDue}
-use Rattle.candidate.specs.declared.FirstDue.TheVariants.{At as AtSlot, Nothing as NoSlot}
-use Rattle.candidate.specs.declared.Next.{Next}
+use Rattle.layout.specs.Layout.{bank, action_from}
+use Rattle.queue.specs.declared.view.Words.{Words}
+use Rattle.candidate.specs.declared.Due.{Due}
+use Rattle.candidate.specs.declared.Candidate.{Candidate}
 use Rattle.candidate.specs.Candidates.{due_slot, next_of, NextStands, NextReckoned}
 
 -- ---- slots
 
 -- a slot has the moment t
-abbrev pub has_moment : ℕ → Option ℕ → Bool
+abbrev pub has_moment : ℕ → RulesOption ℕ → Bool
 has_moment t none = false
 has_moment t (some u) = eqb u t
 
--- the timer and the action of machine i of a side, and the action's moment
-unfoldable pub timer_in : List ℕ → Bool → ℕ → Option ℕ
-timer_in h client i = less_one (bank 64 32 h (16 * side_no (side_of client) + i))
-
-unfoldable pub planned_in : List ℕ → Bool → ℕ → Option Action
+-- the action of machine i of a side
+unfoldable pub planned_in : List ℕ → Bool → ℕ → RulesOption Action
 planned_in h client i =
     action_from
     (bank 96 96 h (3 * (16 * side_no (side_of client) + i)))
     (bank 96 96 h (1 + 3 * (16 * side_no (side_of client) + i)))
     (bank 96 96 h (2 + 3 * (16 * side_no (side_of client) + i)))
 
-unfoldable pub moment_in : List ℕ → Bool → ℕ → Option ℕ
-moment_in h client i = map (λ (a : Action). a.moment) (planned_in h client i)
-
--- at each turn: no slot below m has the moment t
-pub record Missed (f : ℕ → Option ℕ) (t m : ℕ) : Type 0 where
-  pub below : (i : ℕ) → i < m → has_moment t (f i) ≡ false
-
 -- ---- what was found
 
--- `Machine`
-unfoldable pub machine_of : Machine → Option ℕ
-machine_of (AtMachine m) = some m
-machine_of NoMachine = none
+-- a machine, or none
+unfoldable pub machine_of : Option ℕ → RulesOption ℕ
+machine_of (Some m) = some m
+machine_of None = none
 
--- `FirstDue`
-unfoldable pub due_of : FirstDue → Option Slot
-due_of (AtSlot d) = some (due_slot d)
-due_of NoSlot = none
+-- the slot that is due, or none
+unfoldable pub due_of : Option Due → RulesOption Slot
+due_of (Some d) = some (due_slot d)
+due_of None = none
 
 -- what is due has the moment t
-unfoldable pub DueWhen : ℕ → FirstDue → Type 0
-DueWhen t (AtSlot d) = d.moment.0 ≡ t
-DueWhen t NoSlot = Unit {0}
+unfoldable pub DueWhen : ℕ → Option Due → Type 0
+DueWhen t (Some d) = d.moment.0 ≡ t
+DueWhen t None = Unit {0}
 
--- of a side, where o is its machine, and of both sides; at the moment t
-pub record DueOn (client : Bool) (o : Option ℕ) (t : ℕ) (r : FirstDue) : Type 0 where
+-- of the slots of both sides that hold these moments, at the moment t: the client's first, then the lowest machine's
+pub record DueIn (moments : SideState → List (RulesOption ℕ)) (s : State) (t : ℕ) (r : Option Due) : Type 0 where
   pub when : DueWhen t r
-  pub is : due_of r ≡ map (λ m. record { side = side_of client; machine = m }) o
-
-pub record DueTimer (h : List ℕ) (t : ℕ) (r : FirstDue) : Type 0 where
-  pub when : DueWhen t r
-  pub is : (rs : List ℕ) → due_of r ≡ timer_slot (state_from h rs) t
-
-pub record DueAction (h : List ℕ) (t : ℕ) (r : FirstDue) : Type 0 where
-  pub when : DueWhen t r
-  pub is : (rs : List ℕ) → due_of r ≡ action_slot (state_from h rs) t
+  pub is : due_of r ≡ slot_of (slot_at t (moments s.client)) (slot_at t (moments s.server))
 
 -- ---- what a round takes up
 
 -- the rules' candidate, which stands in the words
-pub record Picked (h rs : List ℕ) (r : Next) (c : Candidate) : Type 0 where
+pub record Picked (h rs : List ℕ) (r : Option Candidate) (c : RulesCandidate) : Type 0 where
   pub is : next_of h r ≡ c
   pub stands : NextStands h rs r
 
 -- and a block's end comes with what the test at it finds, where the round is made at the time t
-pub record TakenUp (h rs : List ℕ) (t : ℕ) (r : Next) (c : Candidate) : Type 0 where
+pub record TakenUp (h rs : List ℕ) (t : ℕ) (r : Option Candidate) (c : RulesCandidate) : Type 0 where
   pub picked : Picked h rs r c
   pub reckoned : NextReckoned h rs t r
+
+-- the same of the words in view
+abbrev pub PickedIn : Words → Option Candidate → RulesCandidate → Type 0
+PickedIn v r c = Picked v.header.now v.records.now r c
+
+abbrev pub TakenUpIn : Words → ℕ → Option Candidate → RulesCandidate → Type 0
+TakenUpIn v t r c = TakenUp v.header.now v.records.now t r c
 
 -- a delay from t ends within the limit
 unfoldable pub Ahead : ℕ → Delay → Type 0
@@ -89,7 +76,7 @@ Ahead t absent = Unit {0}
 Ahead t (after d) = t + d ≤ moment_limit
 
 -- the last three of the rules' five cases
-abbrev pub later_fitting : State → ℕ → Delays → Candidate
+abbrev pub later_fitting : State → ℕ → Delays → RulesCandidate
 later_fitting s now d =
     if event_first d then or_none an_event (offered s now)
     else if timer_first d then due_timer s now d.i else due_action s now d.s

@@ -1,211 +1,152 @@
 // Which of the five a round takes up: the first that fits.
-ghost use Rattle.std.specs.Prelude.{◌≡◌, false as no, ℕ, ◌≤◌, length};
-ghost use mathlib.Core.List.{List, head?};
+ghost use Rattle.std.specs.Prelude.{◌≡◌, false as no, Option as CodeOption, ◌≤◌};
+ghost use mathlib.Core.List.{head?};
 ghost use Rattle.std.proofs.Math.Option.{Option};
 ghost use Rattle.rules.specs.Limits.{moment_limit};
-ghost use Rattle.rules.specs.ChoiceHeads.{Head, waiting_head};
+ghost use Rattle.rules.specs.ChoiceHeads.{Head as RulesHead, waiting_head};
 ghost use Rattle.rules.specs.ChoiceDelays.{delays as delays_at, next_block};
 ghost use Rattle.rules.specs.ChoiceDelays.{offered as offered_at};
 ghost use Rattle.rules.specs.ChoiceRound.{candidate as candidate_at, aggregate_first, block_first, event_first, or_none, an_aggregate, a_block, an_event, due_timer, due_action, held_up_length};
-ghost use Rattle.layout.specs.Accepted.{Good};
-ghost use Rattle.layout.specs.Header.{Limited, SlotsOk};
-ghost use Rattle.layout.specs.Layout.{state_from};
-ghost use Rattle.queue.specs.Heads.{PeekedBoth, side_held};
+ghost use Rattle.queue.specs.declared.view.Words.{Words};
+ghost use Rattle.queue.specs.Heads.{PeekedBothIn};
+ghost use Rattle.queue.specs.Views.{state_in, side_in};
 ghost use Rattle.queue_peek.specs.Decoded.{delay_of, delays_of};
 ghost use Rattle.delay.specs.Tests.{delayed_of};
-ghost use Rattle.candidate.specs.Promises.{Picked, TakenUp, Ahead, later_fitting};
+ghost use Rattle.candidate.specs.Promises.{PickedIn, TakenUpIn};
+ghost use Rattle.candidate.specs.Promises.{Ahead, later_fitting};
 
-use crate::{Candidate, FirstDue, Next, slots};
-use delay::Delayed;
+use crate::{Candidate, slots};
 use moment::{Length, Moment};
-use queue::peek::Found;
-use queue::{header, peek};
+use queue::peek::Head;
+use queue::{View, header, peek};
 use queue_event::read;
-use queue_peek::blocks::Blocked;
 use queue_peek::five::Delays;
-use queue_peek::order::Delay;
+use queue_peek::not_later;
+use queue_peek::slots::{Actions, Timers};
 
-// An aggregate goes before what is as early.
+// An aggregate goes before what is as early. Each comparison is two words: `&` has no branch, so the proof has one path.
 fn aggregate_first(d: Delays) -> bool
     ensures { result ≡ aggregate_first (delays_of d) }
 {
-    let s = d.s;
-    let i = d.i;
-    let b = d.b;
-    let n = d.n;
-    let q = d.q;
-    if !queue_peek::not_later(n, s) {
-        return false;
-    }
-    if !queue_peek::not_later(n, i) {
-        return false;
-    }
-    if !queue_peek::not_later(n, b) {
-        return false;
-    }
-    queue_peek::not_later(n, q)
+    not_later(d.n, d.s) & not_later(d.n, d.i) & not_later(d.n, d.b) & not_later(d.n, d.q)
 }
 
 // Then a block's end.
 fn block_first(d: Delays) -> bool
     ensures { result ≡ block_first (delays_of d) }
 {
-    let s = d.s;
-    let i = d.i;
-    let b = d.b;
-    let q = d.q;
-    if !queue_peek::not_later(b, s) {
-        return false;
-    }
-    if !queue_peek::not_later(b, i) {
-        return false;
-    }
-    queue_peek::not_later(b, q)
+    not_later(d.b, d.s) & not_later(d.b, d.i) & not_later(d.b, d.q)
 }
 
 // Then a queued event.
 fn event_first(d: Delays) -> bool
     ensures { result ≡ event_first (delays_of d) }
 {
-    let s = d.s;
-    let i = d.i;
-    let q = d.q;
-    if !queue_peek::not_later(q, s) {
-        return false;
-    }
-    queue_peek::not_later(q, i)
+    not_later(d.q, d.s) & not_later(d.q, d.i)
 }
 
 // The first aggregate.
-fn aggregate_candidate(head: &[u64], rest: &[u64]) -> Next
-    requires fact_1 { length head.now ≡ 256 }
-    requires fact_2 { Good head.now rest.now }
-    ensures { Picked head.now rest.now result (or_none an_aggregate (head? (state_from head.now rest.now).aggregates)) }
+fn aggregate_candidate(view: &View) -> Option<Candidate>
+    ensures { PickedIn view.now.words result (or_none an_aggregate (head? (state_in view.now.words).aggregates)) }
 {
-    let count = header::count(head, header::AGGREGATES);
-    if count == 0 {
-        return Next::Nothing;
+    if view.words.count(header::AGGREGATES) == 0 {
+        return None;
     }
-    let first = header::first(head, header::AGGREGATES);
-    let a = read::aggregate_at(rest, first);
-    Next::Take(Candidate::Aggregate(a))
+    let first = view.words.first(header::AGGREGATES);
+    Some(Candidate::Aggregate(read::aggregate_at(view.words.records, first)))
 }
 
 // What the test at a block's end finds.
-fn held_up(head: &[u64], rest: &[u64], client: bool, end: Moment) -> Delayed
-    requires fact_1 { length head.now ≡ 256 }
-    requires fact_2 { Good head.now rest.now }
-    ensures { delayed_of result ≡ held_up_length (side_held head.now rest.now client) end.0 (waiting_head no (side_held head.now rest.now client)) }
+fn held_up(view: &View, client: bool, end: Moment) -> Option<Length>
+    ensures { delayed_of result ≡ held_up_length (side_in view.now.words client) end.0 (waiting_head no (side_in view.now.words client)) }
 {
-    let waiting = peek::peek_blocking(head, rest, false, client);
-    let Found::At(h) = waiting else {
-        return Delayed::Nothing;
+    let Some(h) = peek::peek_blocking(view, false, client) else {
+        return None;
     };
-    if !h.moment.before(end) {
-        return Delayed::Nothing;
+    if h.moment >= end {
+        return None;
     }
-    let sum = header::of_side(head, header::SUM, client);
-    let margins = delay::usual();
-    delay::agg_delay_on_blocking_expire(head, rest, client, end, h.moment, Length(sum), margins)
+    let sum = Length(view.words.of_side(header::SUM, client));
+    delay::agg_delay_on_blocking_expire(view, client, end, h.moment, sum, delay::usual())
 }
 
 // The next block to end. What waits behind it is looked through here, once for its sums and its aggregates.
-fn block_candidate(head: &[u64], rest: &[u64], time: Moment) -> Next
-    requires fact_1 { length head.now ≡ 256 }
-    requires fact_2 { Good head.now rest.now }
-    ensures { TakenUp head.now rest.now time.0 result (or_none a_block (next_block (state_from head.now rest.now))) }
+fn block_candidate(view: &View, time: Moment) -> Option<Candidate>
+    ensures { TakenUpIn view.now.words time.0 result (or_none a_block (next_block (state_in view.now.words))) }
 {
-    let next = queue_peek::next_block(head);
-    let Blocked::Until(k) = next else {
-        return Next::Nothing;
+    let Some(k) = queue_peek::next_block(&view.words) else {
+        return None;
     };
-    let end = k.end.later(time);
-    let by = held_up(head, rest, k.client, end);
-    Next::Take(Candidate::Block(k, by))
+    let end = k.end.max(time);
+    let by = held_up(view, k.client, end);
+    Some(Candidate::Block(k, by))
 }
 
 // What the queues offer: the head that was found with its delay.
-fn event_candidate(found: Found) -> Next
-    ensures { (hs rs : List ℕ) (o : Option Head) → PeekedBoth hs rs found o → Picked hs rs result (or_none an_event o) }
+fn event_candidate(found: Option<Head>) -> Option<Candidate>
+    ensures { (v : Words) (o : Option RulesHead) → PeekedBothIn v found o → PickedIn v result (or_none an_event o) }
 {
-    let Found::At(h) = found else {
-        return Next::Nothing;
+    let Some(h) = found else {
+        return None;
     };
-    Next::Take(Candidate::Event(h))
+    Some(Candidate::Event(h))
 }
 
 // The timer that is due after the delay.
-fn timer_candidate(head: &[u64], i: Delay, time: Moment) -> Next
-    requires fact_1 { length head.now ≡ 256 }
-    requires fact_2 { Limited head.now }
-    requires fact_3 { SlotsOk head.now }
-    requires fact_4 { Ahead time.0 (delay_of i) }
-    ensures { (rs : List ℕ) → Picked head.now rs result (due_timer (state_from head.now rs) time.0 (delay_of i)) }
+fn timer_candidate(view: &View, i: Option<Length>, time: Moment) -> Option<Candidate>
+    requires { Ahead time.0 (delay_of i) }
+    ensures { PickedIn view.now.words result (due_timer (state_in view.now.words) time.0 (delay_of i)) }
 {
-    let Delay::In(l) = i else {
-        return Next::Nothing;
+    let Some(l) = i else {
+        return None;
     };
-    let at = time.plus(l);
-    let first = slots::due_timer(head, at);
-    let FirstDue::At(d) = first else {
-        return Next::Nothing;
+    let Some(d) = slots::due::<Timers>(&view.words, time.plus(l)) else {
+        return None;
     };
-    Next::Take(Candidate::Timer(d))
+    Some(Candidate::Timer(d))
 }
 
 // The action that is due after the delay.
-fn action_candidate(head: &[u64], s: Delay, time: Moment) -> Next
-    requires fact_1 { length head.now ≡ 256 }
-    requires fact_2 { Limited head.now }
-    requires fact_3 { SlotsOk head.now }
-    requires fact_4 { Ahead time.0 (delay_of s) }
-    ensures { (rs : List ℕ) → Picked head.now rs result (due_action (state_from head.now rs) time.0 (delay_of s)) }
+fn action_candidate(view: &View, s: Option<Length>, time: Moment) -> Option<Candidate>
+    requires { Ahead time.0 (delay_of s) }
+    ensures { PickedIn view.now.words result (due_action (state_in view.now.words) time.0 (delay_of s)) }
 {
-    let Delay::In(l) = s else {
-        return Next::Nothing;
+    let Some(l) = s else {
+        return None;
     };
-    let at = time.plus(l);
-    let first = slots::due_action(head, at);
-    let FirstDue::At(d) = first else {
-        return Next::Nothing;
+    let Some(d) = slots::due::<Actions>(&view.words, time.plus(l)) else {
+        return None;
     };
-    slots::planned(head, d)
+    slots::planned(&view.words, d)
 }
 
 // The last three of the five.
-fn later_candidate(head: &[u64], rest: &[u64], d: Delays, time: Moment) -> Next
-    requires head_len_1 { length head.now ≡ 256 }
-    requires head_len_2 { Good head.now rest.now }
-    requires head_len_3 { time.0 ≤ moment_limit }
-    requires d_value_1 { delays_of d ≡ delays_at (state_from head.now rest.now) time.0 }
-    requires d_value_2 { PeekedBoth head.now rest.now d.found (offered_at (state_from head.now rest.now) time.0) }
-    ensures { Picked head.now rest.now result (later_fitting (state_from head.now rest.now) time.0 (delays_of d)) }
+fn later_candidate(view: &View, d: Delays, time: Moment) -> Option<Candidate>
+    requires time_small { time.0 ≤ moment_limit }
+    requires delays_here { delays_of d ≡ delays_at (state_in view.now.words) time.0 }
+    requires head_here { PeekedBothIn view.now.words d.found (offered_at (state_in view.now.words) time.0) }
+    ensures { PickedIn view.now.words result (later_fitting (state_in view.now.words) time.0 (delays_of d)) }
 {
     if event_first(d) {
-        let found = d.found;
-        return event_candidate(found);
+        return event_candidate(d.found);
     }
-    let s = d.s;
-    let i = d.i;
-    if queue_peek::not_later(i, s) {
-        return timer_candidate(head, i, time);
+    if not_later(d.i, d.s) {
+        return timer_candidate(view, d.i, time);
     }
-    action_candidate(head, s, time)
+    action_candidate(view, d.s, time)
 }
 
 // What a round takes up.
-pub fn candidate(head: &[u64], rest: &[u64], time: Moment) -> Next
-    requires fact_1 { length head.now ≡ 256 }
-    requires fact_2 { Good head.now rest.now }
-    requires fact_3 { time.0 ≤ moment_limit }
-    ensures { TakenUp head.now rest.now time.0 result (candidate_at (state_from head.now rest.now) time.0) }
+pub fn candidate(view: &View, time: Moment) -> Option<Candidate>
+    requires { time.0 ≤ moment_limit }
+    ensures { TakenUpIn view.now.words time.0 result (candidate_at (state_in view.now.words) time.0) }
 {
-    let d = queue_peek::delays(head, rest, time);
+    let d = queue_peek::delays(view, time);
     if aggregate_first(d) {
-        return aggregate_candidate(head, rest);
+        return aggregate_candidate(view);
     }
     if block_first(d) {
-        return block_candidate(head, rest, time);
+        return block_candidate(view, time);
     }
-    later_candidate(head, rest, d, time)
+    later_candidate(view, d, time)
 }

@@ -1,18 +1,17 @@
--- What waits at a side of the lent words, chain by chain, and the tail of a burst with its margin handed in. Assumes nothing.
+-- What waits at a side, queue by queue, and the tail of a burst with its margin handed in. Assumes nothing.
 use Rattle.std.specs.Prelude.{ℕ, ◌-◌, max, Bool, leb, ltb, length, if◌then◌else◌}
 use mathlib.Core.List.{List, [], ◌∷◌, tail}
-use Rattle.rules.specs.Basics.{Side}
-use Rattle.rules.specs.State.{Event, Held, SideState, queue, side}
+use Rattle.rules.specs.State.{Event, Held, SideState, queue}
 use Rattle.rules.specs.Aggregates.{any_within, waiting}
-use Rattle.layout.specs.Layout.{state_from}
-use Rattle.queue.specs.Heads.{chain_at}
+use Rattle.queue.specs.declared.header.Queue.{Queue}
+use Rattle.queue.specs.Queues.{queue_of}
 
--- what chain `of` of a side holds, and that but for its head
-unfoldable pub held_in : List ℕ → List ℕ → Side → ℕ → List (Held Event)
-held_in h rs z of = queue (side (state_from h rs) z).queues (chain_at of)
+-- what a queue of a side holds, and that but for its head
+unfoldable pub held_in : SideState → Queue → List (Held Event)
+held_in x q = queue x.queues (queue_of q)
 
-unfoldable pub behind_in : List ℕ → List ℕ → Side → ℕ → List (Held Event)
-behind_in h rs z of = tail (held_in h rs z of)
+unfoldable pub behind_in : SideState → Queue → List (Held Event)
+behind_in x q = tail (held_in x q)
 
 -- the rules' any_within, shut
 unfoldable pub any_in : ℕ → ℕ → List (Held Event) → Bool

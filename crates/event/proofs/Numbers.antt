@@ -1,10 +1,11 @@
 -- Laws of the numbers of kinds: which are a kind's, which have a machine, and which actions a slot may hold. Assumes nothing.
 use Prim.Native.Nat.{ℕ, zero, suc, ◌-◌, ◌<◌, ◌≤◌}
-use mathlib.Core.Path.{◌≡◌, refl, sym, ap, subst}
-use mathlib.Core.Bool.{Bool, true, false}
+use mathlib.Core.Path.{◌≡◌, refl, ap, subst, ◌∙◌}
+use mathlib.Core.Bool.{Bool, true, false, ◌||◌}
 use mathlib.Core.Option.{none, some, map}
 use native.Mathlib.Omega.{arith}
-use lib.Dec.{ltb}
+use Rattle.std.proofs.lemmas.Bool.Decides.{nat_tests}
+use lib.Dec.{ltb, eqb}
 use borrow.Author.Tests.{ltb-true, ltb-false}
 use Rattle.rules.specs.Basics.{kind_of}
 use Rattle.event.specs.declared.SimEvent.{SimEvent}
@@ -53,46 +54,18 @@ machine_above n l = subst (λ x. has_machine_no x ≡ false) past refl
     past = omega arith
 
 -- kinds 2, 6, 8 and 9 have one, and no other number has
-pub machine_2 : (n : ℕ) → n ≡ 2 → true ≡ has_machine_no n
+pub machine_is : (n : ℕ) → has_machine_no n ≡ (eqb n 2 || (eqb n 6 || (eqb n 8 || eqb n 9)))
 unfolding has_machine_no
-machine_2 n e = rw e
-
-pub machine_6 : (n : ℕ) → n ≡ 6 → true ≡ has_machine_no n
-unfolding has_machine_no
-machine_6 n e = rw e
-
-pub machine_8 : (n : ℕ) → n ≡ 8 → true ≡ has_machine_no n
-unfolding has_machine_no
-machine_8 n e = rw e
-
-pub machine_9 : (n : ℕ) → n ≡ 9 → true ≡ has_machine_no n
-unfolding has_machine_no
-machine_9 n e = rw e
-
-pub machine_none : (n : ℕ) → (n ≡ 2 → ⊥) → (n ≡ 6 → ⊥) → (n ≡ 8 → ⊥) → (n ≡ 9 → ⊥) → false ≡ has_machine_no n
-unfolding has_machine_no
-machine_none n a b c d = go (ltb n 10) refl
+machine_is n = go (ltb n 10) refl
   where
-    go : (t : Bool) → ltb n 10 ≡ t → false ≡ has_machine_no n
-    go true e =
-        by_kind (λ n. (n ≡ 2 → ⊥) → (n ≡ 6 → ⊥) → (n ≡ 8 → ⊥) → (n ≡ 9 → ⊥) → false ≡ has_machine_no n)
-        (λ a b c d. refl) (λ a b c d. refl) (λ a b c d. absurd (a refl)) (λ a b c d. refl) (λ a b c d. refl)
-        (λ a b c d. refl) (λ a b c d. absurd (b refl)) (λ a b c d. refl) (λ a b c d. absurd (c refl)) (λ a b c d. absurd (d refl))
-        n (ltb-true n 10 e) a b c d
-    go false e = sym (machine_above n (ltb-false n 10 e))
+    go : (t : Bool) → ltb n 10 ≡ t → has_machine_no n ≡ (eqb n 2 || (eqb n 6 || (eqb n 8 || eqb n 9)))
+    go true e = by_kind (λ n. has_machine_no n ≡ (eqb n 2 || (eqb n 6 || (eqb n 8 || eqb n 9)))) refl refl refl refl refl refl refl refl refl refl n (ltb-true n 10 e)
+    go false e = let l : 10 ≤ n = ltb-false n 10 e in machine_above n l ∙ grind (arith, nat_tests)
 
 -- the actions of a slot are 1 and 2, and no other number is one
-pub action_1 : (n : ℕ) → n ≡ 1 → true ≡ is_action_no n
+pub action_is : (n : ℕ) → is_action_no n ≡ (eqb n 1 || eqb n 2)
 unfolding is_action_no
-action_1 n e = rw e
-
-pub action_2 : (n : ℕ) → n ≡ 2 → true ≡ is_action_no n
-unfolding is_action_no
-action_2 n e = rw e
-
-pub action_none : (n : ℕ) → (n ≡ 1 → ⊥) → (n ≡ 2 → ⊥) → false ≡ is_action_no n
-unfolding is_action_no
-action_none zero a b = refl
-action_none (suc zero) a b = absurd (a refl)
-action_none (suc (suc zero)) a b = absurd (b refl)
-action_none (suc (suc (suc n))) a b = refl
+action_is zero = refl
+action_is (suc zero) = refl
+action_is (suc (suc zero)) = refl
+action_is (suc (suc (suc n))) = grind (arith, nat_tests)

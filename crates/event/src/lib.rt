@@ -57,23 +57,15 @@ impl Kind {
         self.0 <= Kind::TIMER_END
     }
 
+    #[tactic(auto, using(crate::proofs::Numbers::machine_is))]
     pub fn has_machine(self) -> bool
         ensures { result ≡ has_machine_no self.0 }
     {
         let n = self.0;
-        if n == Kind::PADDING_SENT {
-            return true;
-        }
-        if n == Kind::BLOCKING_BEGIN {
-            return true;
-        }
-        if n == Kind::TIMER_BEGIN {
-            return true;
-        }
-        if n == Kind::TIMER_END {
-            return true;
-        }
-        false
+        matches!(
+            n,
+            Kind::PADDING_SENT | Kind::BLOCKING_BEGIN | Kind::TIMER_BEGIN | Kind::TIMER_END
+        )
     }
 }
 
@@ -88,17 +80,12 @@ impl ActionKind {
     pub const BLOCK_OUTGOING: u64 = 2;
 
     // Whether it is one that a slot may hold.
+    #[tactic(auto, using(crate::proofs::Numbers::action_is))]
     pub fn known(self) -> bool
         ensures { result ≡ is_action_no self.0 }
     {
         let n = self.0;
-        if n == ActionKind::SEND_PADDING {
-            return true;
-        }
-        if n == ActionKind::BLOCK_OUTGOING {
-            return true;
-        }
-        false
+        matches!(n, ActionKind::SEND_PADDING | ActionKind::BLOCK_OUTGOING)
     }
 }
 

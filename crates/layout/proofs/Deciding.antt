@@ -1,9 +1,9 @@
 -- How a test is shown to decide a fact: by its answer, by a comparison, by another test. Assumes nothing.
-use Prim.Native.Nat.{ℕ, ◌≤◌, ◌<◌}
+use Prim.Native.Nat.{ℕ, ◌≤◌}
 use mathlib.Core.Path.{◌≡◌, refl, sym, subst, ◌∙◌}
 use mathlib.Core.Bool.{Bool, true, false, not}
-use lib.Dec.{T, eqb, leb, ltb}
-use borrow.Author.Tests.{eqb-true, eq-eqb, leb-true, le-leb, ltb-true, lt-ltb, not-true, not-false}
+use lib.Dec.{T, eqb, leb}
+use borrow.Author.Tests.{eqb-true, eq-eqb, leb-true, le-leb, not-true, not-false}
 use Rattle.layout.specs.Decides.{Decides}
 
 -- a test that answers true, where the fact holds
@@ -24,9 +24,6 @@ by_eqb a b f g = record { sound = λ e. f (eqb-true a b e); complete = λ p. eq-
 pub by_leb : {P : Type 0} (a b : ℕ) → (a ≤ b → P) → (P → a ≤ b) → Decides P (leb a b)
 by_leb a b f g = record { sound = λ e. f (leb-true a b e); complete = λ p. le-leb a b (g p) }
 
-pub by_ltb : {P : Type 0} (a b : ℕ) → (a < b → P) → (P → a < b) → Decides P (ltb a b)
-by_ltb a b f g = record { sound = λ e. f (ltb-true a b e); complete = λ p. lt-ltb a b (g p) }
-
 -- a test that hands on another's answer
 pub hands : {P Q : Type 0} {r : Bool} → Decides Q r → (Q → P) → (P → Q) → Decides P r
 hands d f g = record { sound = λ e. f (d.sound e); complete = λ p. d.complete (g p) }
@@ -37,3 +34,7 @@ refused {r = r} d e p = false_true (sym (not-true r e) ∙ d.complete p)
 
 pub passed : {P : Type 0} {r : Bool} → Decides P r → not r ≡ false → P
 passed {r = r} d e = d.sound (not-false r e)
+
+-- where the test answers false, the fact does not hold
+pub denied : {P : Type 0} {r : Bool} → Decides P r → r ≡ false → P → ⊥
+denied d e p = false_true (sym e ∙ d.complete p)

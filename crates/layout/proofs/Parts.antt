@@ -13,9 +13,6 @@ rest_part w = take_all (length w - 256) (drop 256 w) (omega (arith, length-drop 
 pub head_length : (w : List ℕ) → 260 ≤ length w → length (take 256 w) ≡ 256
 head_length w h = length-take-le 256 w (omega arith)
 
-pub rest_length : (w : List ℕ) → length w ≤ 262396 → length (take (length w - 256) (drop 256 w)) ≤ 262140
-rest_length w h = rw rest_part (omega (arith, length-drop 256 w))
-
 -- what the block is after `&mut block[256..]` was written
 pub back_is : (xs ys : List ℕ) → put_mid 256 (length xs - 256) xs ys ≡ take 256 xs ++ ys
 back_is xs ys =

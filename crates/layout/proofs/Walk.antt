@@ -1,8 +1,8 @@
 -- A chain as the test walks it, link by link, and as `ChainOk` states it: each from the other. Assumes nothing.
-use Prim.Native.Nat.{ℕ, zero, suc, ◌-◌, ◌≤◌, ◌<◌, ◌/◌}
+use Prim.Native.Nat.{ℕ, zero, suc, ◌+◌, ◌-◌, ◌≤◌, ◌<◌, ◌/◌}
 use mathlib.Core.Path.{◌≡◌, sym, subst}
 use mathlib.Core.List.{List}
-use mathlib.Core.Bool.{Bool, true, false, not}
+use mathlib.Core.Bool.{Bool, true, false}
 use native.Mathlib.Omega.{arith}
 use lib.Dec.{eqb}
 use lib.ListN.{length}
@@ -12,7 +12,7 @@ use Rattle.queue_event.specs.Tag.{kind_field}
 use Rattle.queue_event.proofs.Laws.{pred_is}
 use Rattle.layout.specs.Decides.{Decides}
 use Rattle.layout.specs.Records.{RecordOk, Follows, Fit, Ordered, LinkOk, Chain, ChainOk, head_of, count_of, machines_for}
-use Rattle.layout.proofs.Deciding.{fails, by_eqb, refused, passed}
+use Rattle.layout.proofs.Deciding.{fails, by_eqb, denied}
 
 module _ (rs : List ℕ) (k c : ℕ) where
   chain_linked : (n m r at : ℕ) → Chain rs k c n m r at → Linked rs k n at
@@ -78,12 +78,9 @@ pub record Rest (P Q : Type 0) : Type 0 where
   pub on : P → Q
   pub back : Q → P
 
-pub rest_all : {P : Type 0} → Rest P P
-rest_all = record { on = λ p. p; back = λ p. p }
-
-module _ {P : Type 0} (rs : List ℕ) (k c n m r at : ℕ) (walk : Rest P (Chain rs k c n m r at)) (some : 0 < n) where
+module _ {P : Type 0} (rs : List ℕ) (k c n i m r at : ℕ) (walk : Rest P (Chain rs k c (n - i) m r at)) (some : i < n) where
   no_link : (LinkOk rs k c m r at → ⊥) → Decides P false
-  no_link bad = fails (λ p. bad (chain_link rs k c n m r at some (walk.on p)))
+  no_link bad = fails (λ p. bad (chain_link rs k c (n - i) m r at (omega arith) (walk.on p)))
 
   -- there is no record of this number
   pub walk_ended : at ≡ 0 → Decides P false
@@ -94,22 +91,23 @@ module _ {P : Type 0} (rs : List ℕ) (k c n m r at : ℕ) (walk : Rest P (Chain
 
   -- the words that were read: the record's own test, and its place after the one before it
   module _ (m' l' t' : ℕ) (a b : Bool) (em : m' ≡ moment_of rs at) (el : l' ≡ length_of rs at) (et : t' ≡ tag_of rs at) (fine : Decides (RecordOk k c m' l' t') a) where
-    pub walk_unfit : not a ≡ true → Decides P false
-    walk_unfit bad = no_link (λ l. refused fine bad (rw (em, el, et) l.holds))
+    pub walk_unfit : a ≡ false → Decides P false
+    walk_unfit bad = no_link (λ l. denied fine bad (rw (em, el, et) l.holds))
 
-    pub walk_disorder : (rank : ℕ) → rank ≡ kind_field t' → Decides (Follows k m r m' rank) b → not b ≡ true → Decides P false
-    walk_disorder rank er after bad = no_link (λ l. refused after bad (rw er (rw (em, et) l.order)))
+    pub walk_disorder : (rank : ℕ) → rank ≡ kind_field t' → Decides (Follows k m r m' rank) b → b ≡ false → Decides P false
+    walk_disorder rank er after bad = no_link (λ l. denied after bad (rw er (rw (em, et) l.order)))
 
     -- one turn
     pub walk_turn :
-        not a ≡ false → (rank : ℕ) → rank ≡ kind_field t' → Decides (Follows k m r m' rank) b → not b ≡ false → (at ≡ 0 → ⊥) → at ≤ length rs / 4
-        → (next : ℕ) → next ≡ next_of rs at → Rest P (Chain rs k c (n - 1) m' rank next)
+        a ≡ true → (rank : ℕ) → rank ≡ kind_field t' → Decides (Follows k m r m' rank) b → b ≡ true → (at ≡ 0 → ⊥) → at ≤ length rs / 4
+        → (next : ℕ) → next ≡ next_of rs at → Rest P (Chain rs k c (n - (i + 1)) m' rank next)
     walk_turn good rank er after ordered one inside next en =
-        rw er
+        let left : n - (i + 1) ≡ n - i - 1 = omega arith in
+        rw (er, left)
         (rw (em, et, en)
         (record {
-          on = λ p. chain_rest rs k c n m r at some (walk.on p);
-          back = λ q. walk.back (chain_join rs k c n m r at some (record { within = record { one = omega arith; fits = omega arith }; holds = rw (em, el, et) at (passed fine good); order = rw (em, et) at (rw er at (passed after ordered)) }) q);
+          on = λ p. chain_rest rs k c (n - i) m r at (omega arith) (walk.on p);
+          back = λ q. walk.back (chain_join rs k c (n - i) m r at (omega arith) (record { within = record { one = omega arith; fits = omega arith }; holds = rw (em, el, et) at (fine.sound good); order = rw (em, et) at (rw er at (after.sound ordered)) }) q);
         }))
 
 -- the end

@@ -1,13 +1,13 @@
 // A moment and a length of time, as Instant and Duration are: whole nanoseconds, added only by named operations.
 #![tactic(auto)]
 
-ghost use Rattle.std.specs.Prelude.{◌≡◌, ◌+◌, ◌-◌, ◌*◌, ◌/◌, ◌^◌, ◌<◌, ◌≤◌, max, leb, ltb};
+ghost use Rattle.std.specs.Prelude.{◌≡◌, ◌+◌, ◌-◌, ◌*◌, ◌/◌, ◌^◌, ◌<◌, ◌≤◌, max, leb, ltb, MatchOption};
 ghost use Rattle.rules.specs.Limits.{moment_limit, delay_limit, duration_limit};
 
-#[derive(Clone, Copy)]
+#[derive(Clone, Copy, PartialEq, Eq, PartialOrd, Ord)]
 pub struct Moment(pub u64);
 
-#[derive(Clone, Copy)]
+#[derive(Clone, Copy, PartialEq, Eq, PartialOrd, Ord)]
 pub struct Length(pub u64);
 
 impl Moment {
@@ -24,18 +24,14 @@ impl Moment {
     pub fn fits(self) -> bool
         ensures { result ≡ leb self.0 moment_limit }
     {
-        let limit = Moment::limit();
-        self.0 <= limit.0
+        self <= Moment::limit()
     }
 
     // The length from `earlier` to this moment; 0 where `earlier` is later.
     pub fn since(self, earlier: Moment) -> Length
         ensures { result.0 ≡ self.0 - earlier.0 }
     {
-        if earlier.0 < self.0 {
-            return Length(self.0 - earlier.0);
-        }
-        Length(0)
+        Length(self.0.saturating_sub(earlier.0))
     }
 
     pub fn plus(self, l: Length) -> Moment
@@ -68,20 +64,14 @@ impl Moment {
         self.0 + 1
     }
 
-    // The later of two moments.
-    pub fn later(self, other: Moment) -> Moment
-        ensures { result.0 ≡ max self.0 other.0 }
+    // The moment in such a word, if it holds one.
+    pub fn from_stored(word: u64) -> Option<Moment>
+        ensures { MatchOption result (word ≡ 0) (λ m. m.0 + 1 ≡ word) }
     {
-        if self.0 < other.0 {
-            return Moment(other.0);
+        if word == 0 {
+            return None;
         }
-        Moment(self.0)
-    }
-
-    pub fn before(self, other: Moment) -> bool
-        ensures { result ≡ ltb self.0 other.0 }
-    {
-        self.0 < other.0
+        Some(Moment(word - 1))
     }
 }
 
@@ -123,22 +113,19 @@ impl Length {
     pub fn fits(self) -> bool
         ensures { result ≡ leb self.0 duration_limit }
     {
-        let limit = Length::limit();
-        self.0 <= limit.0
+        self <= Length::limit()
     }
 
     pub fn fits_delay(self) -> bool
         ensures { result ≡ leb self.0 delay_limit }
     {
-        let limit = Length::delay_limit();
-        self.0 <= limit.0
+        self <= Length::delay_limit()
     }
 
     pub fn fits_sum(self) -> bool
         ensures { result ≡ leb self.0 moment_limit }
     {
-        let limit = Length::sum_limit();
-        self.0 <= limit.0
+        self <= Length::sum_limit()
     }
 
     pub fn plus(self, l: Length) -> Length
@@ -146,13 +133,6 @@ impl Length {
         ensures { result.0 ≡ self.0 + l.0 }
     {
         Length(self.0 + l.0)
-    }
-
-    // Whether it is longer than another.
-    pub fn exceeds(self, l: Length) -> bool
-        ensures { result ≡ ltb l.0 self.0 }
-    {
-        l.0 < self.0
     }
 
     // What is left of this length after another that is no longer.
@@ -176,11 +156,5 @@ impl Length {
         ensures { result.0 ≡ self.0 / n }
     {
         Length(self.0 / n)
-    }
-
-    pub fn within(self, window: Length) -> bool
-        ensures { result ≡ leb self.0 window.0 }
-    {
-        self.0 <= window.0
     }
 }

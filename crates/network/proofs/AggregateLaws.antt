@@ -13,8 +13,7 @@ use Rattle.event.specs.HandedIn.{aggregate_in}
 use Rattle.layout.specs.Layout.{state_of}
 use Rattle.queue.specs.Changes.{Leaves, count_in}
 use Rattle.queue.specs.Pushes.{MayAdd}
-use Rattle.delay.specs.declared.Delayed.{Delayed}
-use Rattle.delay.specs.declared.Delayed.TheVariants.{Nothing, By}
+use Rattle.std.specs.Prelude.{Option, Some, None}
 use Rattle.delay.specs.Tests.{delayed_of}
 use Rattle.queue.proofs.Sizes.{free_length, leaves_then}
 use Rattle.network.specs.declared.aggregate.TwoAggregates.{TwoAggregates}
@@ -37,23 +36,20 @@ adds_free s (a ∷ new) = omega (arith, adds_free (add_aggregate s a) new, add_f
 
 -- ---- no delay
 
-module _ (w : List ℕ) (d at : ℕ) (z : Side) (by : Delayed) (may : MayAggregate w d z at (delayed_of by)) where
-  pub delay_none : by ≡ Nothing → Leaves w w (add_aggregates (state_of w) (aggregates_of d z at (delayed_of by)))
+module _ (w : List ℕ) (d at : ℕ) (z : Side) (by : Option Length) (may : MayAggregate w d z at (delayed_of by)) where
+  pub delay_none : by ≡ None → Leaves w w (add_aggregates (state_of w) (aggregates_of d z at (delayed_of by)))
   unfolding add_aggregates aggregates_of
   delay_none e =
       record { shaped = may.shaped; state = sym (ap (λ x. add_aggregates (state_of w) (aggregates_of d z at (delayed_of x))) e); size = refl; beside = λ i l o. refl }
 
   -- ---- a delay: two aggregates
 
-  module _ (len : Length) (e : by ≡ By len) (b : TwoAggregates) (eb : both_of b ≡ aggregates_of d z at (some len.0)) where
+  module _ (len : Length) (e : by ≡ Some len) (b : TwoAggregates) (eb : both_of b ≡ aggregates_of d z at (some len.0)) where
     are : both_of b ≡ aggregates_of d z at (delayed_of by)
     are = eb ∙ sym (ap (λ x. aggregates_of d z at (delayed_of x)) e)
 
     two_free : 2 ≤ count_in w 0
     two_free = omega (arith, may.free, ap length are)
-
-    pub first_may : MayAdd w
-    first_may = record { shaped = may.shaped; free = omega (arith, two_free) }
 
     module _ (v : List ℕ) (one : Leaves w v (add_aggregate (state_of w) (aggregate_in b.client))) where
       one_less : count_in v 0 ≡ count_in w 0 - 1

@@ -1,14 +1,13 @@
 -- Laws of a step of `PaddingSent`: its plan as the code makes it, and the rules' step by that plan. Assumes nothing.
-use Prim.Native.Nat.{ℕ, zero, suc, ◌+◌, ◌<◌, ◌≤◌}
+use Prim.Native.Nat.{ℕ, ◌+◌, ◌≤◌}
 use mathlib.Core.Path.{◌≡◌, refl, sym, ap, ap₂, ◌∙◌, subst}
 use mathlib.Core.Bool.{Bool, true, false, ◌&&◌}
 use mathlib.Core.List.{List}
 use mathlib.Core.Logic.{◌⊎◌, inl, inr}
-use mathlib.Core.Option.{Option, none, some}
+use mathlib.Core.Option.{Option as RulesOption, none, some}
 use native.Mathlib.Omega.{arith}
-use lib.Dec.{lit<}
 use lib.ListN.{length, get_or}
-use Rattle.std.specs.Prelude.{if◌then◌else◌}
+use Rattle.std.specs.Prelude.{if◌then◌else◌, Option, Some, None}
 use Rattle.rules.specs.Basics.{Side, client, server}
 use Rattle.rules.specs.State.{Event, SideState, State, side, with_side}
 use Rattle.rules.specs.Aggregates.{aggregates_of, on_replace, test_sums, some_sum}
@@ -17,17 +16,16 @@ use Rattle.rules.specs.ChoiceRound.{fits, lift_event, pop_side}
 use Rattle.rules.specs.NetworkStep.{as_padding, replace_by, replacing, step_padding, unmoved}
 use Rattle.event.specs.declared.SimEvent.{SimEvent}
 use Rattle.event.specs.HandedIn.{side_of}
-use Rattle.queue_event.specs.Tag.{flag}
 use Rattle.layout.specs.Layout.{state_from}
 use Rattle.queue.specs.declared.peek.Head.{Head as HeadFound}
-use Rattle.queue.specs.declared.peek.Found.{Found}
-use Rattle.queue.specs.declared.peek.Found.TheVariants.{Nothing, At}
-use Rattle.queue.specs.Heads.{chain_at, head_from, found_of, side_held, HeadOk, Peeked}
+use Rattle.queue.specs.declared.header.Queue.{Queue}
+use Rattle.queue.specs.Queues.{queue_of}
+use Rattle.queue.specs.Views.{moment_no}
+use Rattle.queue.specs.Heads.{head_from, found_of, side_held, HeadOk, Peeked}
 use Rattle.delay.specs.declared.Margins.{Margins}
 use Rattle.delay.specs.declared.Tested.{Tested}
-use Rattle.delay.specs.Tests.{delayed_of, base_of, usual_margins, without, replace_over, sums_over, TestedAs}
+use Rattle.delay.specs.Tests.{delayed_of, usual_margins, without, Packets, replace_over, sums_over, TestedAs}
 use Rattle.layout.specs.Changes.{side_no}
-use Rattle.layout.proofs.Banks.{bank_at}
 use Rattle.queue.proofs.HeadsOrder.{stands_at}
 use Rattle.queue.proofs.HeadsSides.{sum_held}
 use Rattle.delay.proofs.Rules.{replace_usual, sums_usual}
@@ -52,7 +50,7 @@ padding_step_lem s now e = go e.replace (waiting_head (side s e.side).block_bypa
     one h false true = refl
     one h false false = refl
 
-    go : (r : Bool) (o : Option Head) → (if r then replacing s now e o else as_padding s e) ≡ padding_step s now e (if r then plan_replacing s now e o else own)
+    go : (r : Bool) (o : RulesOption Head) → (if r then replacing s now e o else as_padding s e) ≡ padding_step s now e (if r then plan_replacing s now e o else own)
     go false o = refl
     go true none = refl
     go true (some h) = one h h.event.padding e.bypass
@@ -67,7 +65,7 @@ padding_sums_lem s now e = go (padding_plan s now e) ∙ ap (λ r. fits r.sums) 
 
 -- ---- the packet that waits stands in blocking or bypassable
 
-module _ (h rs : List ℕ) (c t : Bool) (f : Found) (y : HeadFound) (ef : f ≡ At y) (p : Peeked h rs c f (waiting_head t (side_held h rs c))) where
+module _ (h rs : List ℕ) (c t : Bool) (f : Option HeadFound) (y : HeadFound) (ef : f ≡ Some y) (p : Peeked h rs c f (waiting_head t (side_held h rs c))) where
   stands : HeadOk h rs c y
   stands = stands_at h rs c f y ef p.stands
 
@@ -75,69 +73,41 @@ module _ (h rs : List ℕ) (c t : Bool) (f : Found) (y : HeadFound) (ef : f ≡ 
   unfolding found_of
   found_is = sym p.is ∙ ap found_of ef
 
-  between : (n : ℕ) → (n ≡ 2) ⊎ (n ≡ 3) → (1 < n) × (n < 4)
-  between n (inl e) = (omega arith, omega arith)
-  between n (inr e) = (omega arith, omega arith)
-
-  pub chain_low : 1 < y.chain
-  chain_low = (between y.chain (waits_in t (side_held h rs c) y found_is)).0
-
-  pub chain_high : y.chain < 4
-  chain_high = (between y.chain (waits_in t (side_held h rs c) y found_is)).1
+  pub waits : Packets y.queue
+  waits = waits_in t (side_held h rs c) y found_is
 
 -- ---- replacement
 
-without_sum : (x : SideState) (n : ℕ) → x.sum ≡ (without x n).sum
+without_sum : (x : SideState) (q : Queue) → x.sum ≡ (without x q).sum
 unfolding without
-without_sum x n = refl
+without_sum x q = refl
 
 pub replaced : (h rs : List ℕ) (c : Bool) (now sum : ℕ) (y : HeadFound) (m : Margins) (t : Tested) → m ≡ usual_margins → sum ≡ get_or h (10 + side_no (side_of c)) 0
-    → TestedAs t (replace_over m sum (without (side (state_from h rs) (side_of c)) y.chain) now y.event.moment.0) (sums_over m sum (without (side (state_from h rs) (side_of c)) y.chain) y.event.moment.0)
+    → TestedAs t (replace_over m sum (without (side (state_from h rs) (side_of c)) y.queue) now y.event.moment.0) (sums_over m sum (without (side (state_from h rs) (side_of c)) y.queue) y.event.moment.0)
     → TakenAs (record { head = y; by = t.by; base = t.base }) (side (state_from h rs) (side_of c)) now y
 unfolding padding_of taken_over head_from
 replaced h rs c now sum y m t em es et = record { is = ap₂ (takes (head_from y)) found formed; head = refl }
   where
     x : SideState
-    x = without (side (state_from h rs) (side_of c)) y.chain
+    x = without (side (state_from h rs) (side_of c)) y.queue
 
     same : sum ≡ x.sum
     same = es ∙ sym (sum_held h rs (side_of c)) ∙ kept
       where
         kept : (side (state_from h rs) (side_of c)).sum ≡ x.sum
-        kept = without_sum (side (state_from h rs) (side_of c)) y.chain
+        kept = without_sum (side (state_from h rs) (side_of c)) y.queue
 
     found : delayed_of t.by ≡ on_replace x now y.event.moment.0
     found = et.found ∙ ap₂ (λ a b. replace_over a b x now y.event.moment.0) em same ∙ replace_usual x now y.event.moment.0
 
-    formed : some_sum (base_of t.base) ≡ test_sums x x.sum y.event.moment.0
+    formed : some_sum (moment_no t.base) ≡ test_sums x x.sum y.event.moment.0
     formed = et.formed ∙ ap₂ (λ a b. sums_over a b x y.event.moment.0) em same ∙ sums_usual x x.sum y.event.moment.0
-
--- ---- flag_of
-
-module _ (h : List ℕ) (c : Bool) (n : ℕ) (en : n ≡ get_or h (14 + side_no (side_of c)) 0) where
-  flag_held : (rs : List ℕ) → (side (state_from h rs) (side_of c)).block_bypassable ≡ flag n
-  unfolding state_from
-  flag_held rs = go c ∙ ap flag (sym en)
-    where
-      go : (b : Bool) → (side (state_from h rs) (side_of b)).block_bypassable ≡ flag (get_or h (14 + side_no (side_of b)) 0)
-      go true = ap flag (bank_at 0 24 h 14 (lit< tt))
-      go false = ap flag (bank_at 0 24 h 15 (lit< tt))
-
-  flag_set : (m : ℕ) → (m ≡ 0 → ⊥) → true ≡ flag m
-  flag_set zero d = absurd (d refl)
-  flag_set (suc m) d = refl
-
-  pub flag_no : n ≡ 0 → (rs : List ℕ) → false ≡ (side (state_from h rs) (side_of c)).block_bypassable
-  flag_no e rs = sym (flag_held rs ∙ ap flag e)
-
-  pub flag_yes : (n ≡ 0 → ⊥) → (rs : List ℕ) → true ≡ (side (state_from h rs) (side_of c)).block_bypassable
-  flag_yes d rs = flag_set n d ∙ sym (flag_held rs)
 
 -- ---- plan
 
-lifted_is : (s : State) (y : Head) (n : ℕ) → y.chain ≡ chain_at n → side (lift_event s y) y.event.side ≡ without (side s y.event.side) n
+lifted_is : (s : State) (y : Head) (q : Queue) → y.chain ≡ queue_of q → side (lift_event s y) y.event.side ≡ without (side s y.event.side) q
 unfolding lift_event without
-lifted_is s y n e = go y.event.side ∙ ap (pop_side (side s y.event.side)) e
+lifted_is s y q e = go y.event.side ∙ ap (pop_side (side s y.event.side)) e
   where
     go : (z : Side) → side (with_side s z (pop_side (side s z) y.chain)) z ≡ pop_side (side s z) y.chain
     go client = refl
@@ -160,18 +130,18 @@ module _ (h rs : List ℕ) (e : SimEvent) (now : ℕ) where
   unfolding padding_plan
   plan_own r = own_as _ (sym (ap (λ t. if t then plan_replacing (state_from h rs) now (padded_of e) (waiting_head (side_held h rs e.client).block_bypassable (side_held h rs e.client)) else own) r))
 
-  module _ (r : e.replace ≡ true) (t : Bool) (et : (rs : List ℕ) → t ≡ (side (state_from h rs) (side_of e.client)).block_bypassable) (f : Found) (p : Peeked h rs e.client f (waiting_head t (side_held h rs e.client))) where
+  module _ (r : e.replace ≡ true) (t : Bool) (et : t ≡ (side (state_from h rs) (side_of e.client)).block_bypassable) (f : Option HeadFound) (p : Peeked h rs e.client f (waiting_head t (side_held h rs e.client))) where
     plan_is : plan_replacing (state_from h rs) now (padded_of e) (found_of f) ≡ padding_plan (state_from h rs) now (padded_of e)
     unfolding padding_plan
     plan_is =
-        ap (plan_replacing (state_from h rs) now (padded_of e)) (p.is ∙ ap (λ b. waiting_head b (side_held h rs e.client)) (et rs))
+        ap (plan_replacing (state_from h rs) now (padded_of e)) (p.is ∙ ap (λ b. waiting_head b (side_held h rs e.client)) et)
         ∙ sym (ap (λ b. if b then plan_replacing (state_from h rs) now (padded_of e) (waiting_head (side_held h rs e.client).block_bypassable (side_held h rs e.client)) else own) r)
 
-    pub plan_none : f ≡ Nothing → PaddingAs Own (padding_plan (state_from h rs) now (padded_of e))
+    pub plan_none : f ≡ None → PaddingAs Own (padding_plan (state_from h rs) now (padded_of e))
     unfolding found_of
     plan_none ef = own_as _ (sym (ap (λ x. plan_replacing (state_from h rs) now (padded_of e) (found_of x)) ef) ∙ plan_is)
 
-    module _ (y : HeadFound) (ef : f ≡ At y) where
+    module _ (y : HeadFound) (ef : f ≡ Some y) where
       -- by the packet's padding flag and the event's bypass flag
       ways : Bool → Bool → PaddingPlan
       ways a b = if a then own else if b then takes_from (side (lift_event (state_from h rs) (head_from y)) (side_of y.event.client)) now (head_from y) else dropped
@@ -196,10 +166,10 @@ module _ (h rs : List ℕ) (e : SimEvent) (now : ℕ) where
             number = λ x q. subst (λ (z : HeadFound). z.event.kind.0 ≤ 9) (sym tv.head ∙ ap (λ (z : Replaced). z.head) (replaced_one v x q)) (stands h rs e.client t f y ef p).kind;
           }
         where
-          side_is : without (side (state_from h rs) (side_of e.client)) y.chain ≡ side (lift_event (state_from h rs) (head_from y)) (side_of y.event.client)
+          side_is : without (side (state_from h rs) (side_of e.client)) y.queue ≡ side (lift_event (state_from h rs) (head_from y)) (side_of y.event.client)
           side_is =
-              ap (λ c. without (side (state_from h rs) (side_of c)) y.chain) (sym (stands h rs e.client t f y ef p).side)
-              ∙ sym (lifted_is (state_from h rs) (head_from y) y.chain refl)
+              ap (λ c. without (side (state_from h rs) (side_of c)) y.queue) (sym (stands h rs e.client t f y ef p).side)
+              ∙ sym (lifted_is (state_from h rs) (head_from y) y.queue refl)
 
 -- ---- records_for, fit
 
@@ -217,26 +187,20 @@ module _ (p : Padding) where
   records_taken_lem r n e q = q 0 client 0 ∙ sym (ap (λ x. padding_records (padding_of x)) e)
 
   module _ (d now : ℕ) where
-    pub fit_own : p ≡ Own → true ≡ fits (padding_sums d now (padding_of p))
+    pub fit_none : (p ≡ Own) ⊎ (p ≡ Dropped) → true ≡ fits (padding_sums d now (padding_of p))
     unfolding padding_of fits
-    fit_own e = sym (ap (λ x. fits (padding_sums d now (padding_of x))) e)
+    fit_none (inl e) = sym (ap (λ x. fits (padding_sums d now (padding_of x))) e)
+    fit_none (inr e) = sym (ap (λ x. fits (padding_sums d now (padding_of x))) e)
 
-    pub fit_dropped : p ≡ Dropped → true ≡ fits (padding_sums d now (padding_of p))
-    unfolding padding_of fits
-    fit_dropped e = sym (ap (λ x. fits (padding_sums d now (padding_of x))) e)
-
-    pub fit_taken : (r : Replaced) (b : Bool) → p ≡ Replaces r → b ≡ fits (padding_sums d now (padding_of (Replaces r))) → b ≡ fits (padding_sums d now (padding_of p))
-    fit_taken r b e q = q ∙ sym (ap (λ x. fits (padding_sums d now (padding_of x))) e)
-
-module _ (r : Replaced) (d now : ℕ) (a b : Bool) (ea : a ≡ fits (some_sum (base_of r.base))) (eb : b ≡ fits (moments (aggregates_of d (side_of r.head.event.client) now (delayed_of r.by)))) where
-  fit_is : fits (padding_sums d now (padding_of (Replaces r))) ≡ a && b
+module _ (r : Replaced) (d now : ℕ) (a : Bool) (ea : a ≡ fits (some_sum (moment_no r.base))) where
+  fit_is : fits (padding_sums d now (padding_of (Replaces r))) ≡ a && fits (moments (aggregates_of d (side_of r.head.event.client) now (delayed_of r.by)))
   unfolding padding_of head_from
   fit_is =
-      fits_append (some_sum (base_of r.base)) (moments (aggregates_of d (side_of r.head.event.client) now (delayed_of r.by)))
-      ∙ ap₂ ◌&&◌ (sym ea) (sym eb)
+      fits_append (some_sum (moment_no r.base)) (moments (aggregates_of d (side_of r.head.event.client) now (delayed_of r.by)))
+      ∙ ap (λ x. x && fits (moments (aggregates_of d (side_of r.head.event.client) now (delayed_of r.by)))) (sym ea)
 
-  pub fit_due : a ≡ true → b ≡ fits (padding_sums d now (padding_of (Replaces r)))
-  fit_due t = sym (fit_is ∙ ap (λ x. x && b) t)
+  pub fit_due : (b : Bool) → b ≡ fits (moments (aggregates_of d (side_of r.head.event.client) now (delayed_of r.by))) → a ≡ true → b ≡ fits (padding_sums d now (padding_of (Replaces r)))
+  fit_due b eb t = eb ∙ sym (fit_is ∙ ap (λ x. x && fits (moments (aggregates_of d (side_of r.head.event.client) now (delayed_of r.by)))) t)
 
-  pub fit_not : a ≡ false → false ≡ fits (padding_sums d now (padding_of (Replaces r)))
-  fit_not t = sym (fit_is ∙ ap (λ x. x && b) t)
+  pub fit_formed : a ≡ false → a ≡ fits (padding_sums d now (padding_of (Replaces r)))
+  fit_formed t = t ∙ sym (fit_is ∙ ap (λ x. x && fits (moments (aggregates_of d (side_of r.head.event.client) now (delayed_of r.by)))) t)

@@ -1,5 +1,5 @@
 -- Laws of a step of `TunnelSent`: its plan as the code makes it, and the rules' step by that plan. Assumes nothing.
-use Prim.Native.Nat.{ℕ, ◌+◌, ◌-◌, ◌≤◌, ◌<◌, max}
+use Prim.Native.Nat.{ℕ, ◌+◌, ◌≤◌, ◌<◌}
 use mathlib.Core.Path.{◌≡◌, refl, sym, ap, ap₂, ◌∙◌}
 use mathlib.Core.Bool.{Bool, true, false, ◌&&◌, not}
 use mathlib.Core.List.{List, [], ◌∷◌, ◌++◌}
@@ -8,7 +8,8 @@ use native.Mathlib.Omega.{arith}
 use lib.Dec.{leb, ltb, lit<}
 use lib.ListN.{length, get_or, length-append}
 use borrow.Author.Tests.{lt-ltb}
-use Rattle.std.specs.Prelude.{if◌then◌else◌}
+use Rattle.std.specs.Prelude.{if◌then◌else◌, Option, None}
+use Rattle.std.specs.Bool.{then_some}
 use Rattle.rules.specs.Basics.{Side, client, server, other, TunnelRecv}
 use Rattle.rules.specs.State.{Event, SideState, State, side}
 use Rattle.rules.specs.Limits.{moment_limit, duration_limit}
@@ -22,23 +23,21 @@ use Rattle.event.specs.HandedIn.{side_of}
 use Rattle.layout.specs.Header.{Limited}
 use Rattle.layout.specs.Layout.{bank, state_from, unless_zero}
 use Rattle.event.specs.Values.{event_value}
-use Rattle.delay.specs.declared.Delayed.TheVariants.{Nothing as NotDelayed, By}
-use Rattle.delay.specs.declared.Base.TheVariants.{Nothing as NoBase}
+use Rattle.queue.specs.Views.{moment_no}
 use Rattle.delay.specs.declared.Margins.{Margins}
 use Rattle.delay.specs.declared.Asked.{Asked}
 use Rattle.delay.specs.declared.Tested.{Tested}
-use Rattle.delay.specs.Tests.{delayed_of, base_of, usual_margins, delayed_over, sums_over, TestedAs, AskedAs}
+use Rattle.delay.specs.Tests.{delayed_of, usual_margins, delayed_over, sums_over, TestedAs, AskedAs}
 use Rattle.layout.specs.Changes.{side_no}
 use Rattle.layout.proofs.Banks.{bank_at}
 use Rattle.delay.proofs.Rules.{delayed_usual, sums_usual}
-use Rattle.network.specs.declared.window.Rate.{Rate}
 use Rattle.network.specs.declared.window.Filled.{Filled}
 use Rattle.network.specs.declared.tunnel.Link.{Link}
 use Rattle.network.specs.declared.tunnel.Tunnel.{Tunnel}
 use Rattle.network.specs.Due.{moments}
 use Rattle.network.specs.Stamps.{limit_of, RatedAs, FilledAs, evicted_count}
-use Rattle.network.specs.Plans.{sent_of, Sendable, LinkAs, tested_by, tested_sums, tunnel_of, extra_at, received_as, tunnel_with, tunnel_plan, tunnel_sums, tunnel_step}
-use Rattle.network.proofs.DueLaws.{fits_append}
+use Rattle.network.specs.Plans.{sent_of, LinkAs, tested_by, tested_sums, tunnel_of, extra_at, received_as, tunnel_with, tunnel_plan, tunnel_sums, tunnel_step}
+use Rattle.network.proofs.DueLaws.{and_one, fits_append}
 
 -- ---- the rules' step by its plan
 
@@ -76,27 +75,27 @@ module _ (h rs : List ℕ) (c : Bool) where
       go true = l 7 (lit< tt)
       go false = l 6 (lit< tt)
 
-pub link_as : (h : List ℕ) (c : Bool) (rate : Rate) (sum reporting : ℕ) → Limited h → RatedAs rate (rate_of (unless_zero (get_or h 1 0)) (unless_zero (get_or h 2 0)))
-    → sum ≡ get_or h 10 0 → reporting ≡ get_or h (6 + side_no (side_of (not c))) 0 → (rs : List ℕ)
-    → LinkAs (record { delay = record { 0 = get_or h 0 0 }; window = record { 0 = get_or h 3 0 }; rate = rate; sum = record { 0 = sum }; reporting = record { 0 = reporting } }) (state_from h rs) (side_of c)
-unfolding state_from
-link_as h c rate sum reporting l r es er rs = record {
-  delay = word_at h 0 (lit< tt);
-  window = word_at h 3 (lit< tt);
-  rate = r.is ∙ ap₂ (λ a b. rate_of (unless_zero a) (unless_zero b)) (word_at h 1 (lit< tt)) (word_at h 2 (lit< tt));
-  sum = es ∙ word_at h 10 (lit< tt);
-  reporting = er ∙ reporting_held h rs c;
-  above = r.above;
-  delay_small = l 0 (lit< tt);
-  window_small = l 3 (lit< tt);
-  sum_small = rw es (l 10 (lit< tt));
-  reporting_small = rw er (reporting_small h rs c l);
-}
+  pub link_as : (rate : Option ℕ) (sum reporting : ℕ) → Limited h → RatedAs rate (rate_of (unless_zero (get_or h 1 0)) (unless_zero (get_or h 2 0)))
+      → sum ≡ get_or h 10 0 → reporting ≡ get_or h (6 + side_no (side_of (not c))) 0
+      → LinkAs (record { delay = record { 0 = get_or h 0 0 }; window = record { 0 = get_or h 3 0 }; rate = rate; sum = record { 0 = sum }; reporting = record { 0 = reporting } }) (state_from h rs) (side_of c)
+  unfolding state_from
+  link_as rate sum reporting l r es er = record {
+    delay = word_at h 0 (lit< tt);
+    window = word_at h 3 (lit< tt);
+    rate = r.is ∙ ap₂ (λ a b. rate_of (unless_zero a) (unless_zero b)) (word_at h 1 (lit< tt)) (word_at h 2 (lit< tt));
+    sum = es ∙ word_at h 10 (lit< tt);
+    reporting = er ∙ reporting_held;
+    above = r.above;
+    delay_small = l 0 (lit< tt);
+    window_small = l 3 (lit< tt);
+    sum_small = rw es (l 10 (lit< tt));
+    reporting_small = rw er (reporting_small l);
+  }
 
 -- ---- test
 
 module _ (x : SideState) (sum u : ℕ) (extra : Length) where
-  pub test_none : extra.0 ≡ 0 → TestedAs (record { by = NotDelayed; base = NoBase }) (tested_by x sum u extra.0) (tested_sums x sum u extra.0)
+  pub test_none : extra.0 ≡ 0 → TestedAs (record { by = None; base = None }) (tested_by x sum u extra.0) (tested_sums x sum u extra.0)
   unfolding tested_by tested_sums
   test_none e = record {
     found = sym (ap (λ n. tested_by x sum u n) e);
@@ -107,39 +106,25 @@ module _ (x : SideState) (sum u : ℕ) (extra : Length) where
     above_zero : ltb 0 extra.0 ≡ true
     above_zero = lt-ltb 0 extra.0 (omega arith)
 
-    asked_yes : (t : Bool) → a.yes ≡ t → (if t then some extra.0 else none) ≡ tested_by x sum u extra.0
+    asked_by : delayed_of (then_some a.yes extra) ≡ tested_by x sum u extra.0
     unfolding tested_by
-    asked_yes t e =
-        ap (λ b. if b then some extra.0 else none) (sym e ∙ ea.found ∙ ap (λ v. delayed_over v sum x u) em ∙ delayed_usual x sum u)
+    asked_by =
+        by_yes a.yes
+        ∙ ap (λ b. if b then some extra.0 else none) (ea.found ∙ ap (λ v. delayed_over v sum x u) em ∙ delayed_usual x sum u)
         ∙ sym (ap (λ b. if b && on_delayed x sum u then some extra.0 else none) above_zero)
+      where
+        by_yes : (t : Bool) → delayed_of (then_some t extra) ≡ (if t then some extra.0 else none)
+        by_yes true = refl
+        by_yes false = refl
 
-    asked_sums : some_sum (base_of a.base) ≡ tested_sums x sum u extra.0
+    asked_sums : some_sum (moment_no a.base) ≡ tested_sums x sum u extra.0
     unfolding tested_sums
     asked_sums = ea.formed ∙ ap (λ v. sums_over v sum x u) em ∙ sums_usual x sum u ∙ sym (ap (λ b. if b then test_sums x sum u else []) above_zero)
 
-    pub test_yes : a.yes ≡ true → TestedAs (record { by = By extra; base = a.base }) (tested_by x sum u extra.0) (tested_sums x sum u extra.0)
-    test_yes t = record { found = asked_yes true t; formed = asked_sums }
+    pub tested : (by : Option Length) → by ≡ then_some a.yes extra → TestedAs (record { by = by; base = a.base }) (tested_by x sum u extra.0) (tested_sums x sum u extra.0)
+    tested by e = record { found = ap delayed_of e ∙ asked_by; formed = asked_sums }
 
-    pub test_not : a.yes ≡ false → TestedAs (record { by = NotDelayed; base = a.base }) (tested_by x sum u extra.0) (tested_sums x sum u extra.0)
-    test_not t = record { found = asked_yes false t; formed = asked_sums }
-
--- ---- reported, arrival
-
-pub back_at : (e : SimEvent) (now : ℕ) → Sendable e now → e.padding ≡ false → e.delay.0 ≤ e.moment.0
-back_at e now s p = s.back p
-
-module _ (e : SimEvent) (now network reporting a b r : ℕ) where
-  -- both ways, by the padding flag
-  way : Bool → ℕ
-  way t = if t then e.moment.0 + e.delay.0 + network + reporting else max (e.moment.0 - e.delay.0 + network + reporting) now
-
-  pub reported_padding : e.padding ≡ true → a ≡ e.moment.0 + e.delay.0 → b ≡ a + network → r ≡ b + reporting → r ≡ reported (sent_of e) now network reporting
-  unfolding way
-  reported_padding p ea eb er = er ∙ ap (λ x. x + reporting) (eb ∙ ap (λ x. x + network) ea) ∙ sym (ap way p)
-
-  pub reported_plain : (m : ℕ) → e.padding ≡ false → a ≡ e.moment.0 - e.delay.0 → b ≡ a + network → m ≡ b + reporting → r ≡ max m now → r ≡ reported (sent_of e) now network reporting
-  unfolding way
-  reported_plain m p ea eb em er = er ∙ ap (λ x. max x now) (em ∙ ap (λ x. x + reporting) (eb ∙ ap (λ x. x + network) ea)) ∙ sym (ap way p)
+-- ---- arrival
 
 other_side : (c : Bool) → side_of (not c) ≡ other (side_of c)
 other_side true = refl
@@ -172,7 +157,7 @@ module _ (l : Link) (s : State) (e : SimEvent) (now : ℕ) (f : Filled) (k : Lin
       by_is : delayed_of t.by ≡ tested_by x s.client.sum e.moment.0 (extra_at s (length (stamps_kept s.settings.window now x.stamps) + 1))
       by_is = et.found ∙ ap₂ (λ a b. tested_by x a e.moment.0 b) k.sum extra_is
 
-      formed_is : some_sum (base_of t.base) ≡ tested_sums x s.client.sum e.moment.0 (extra_at s (length (stamps_kept s.settings.window now x.stamps) + 1))
+      formed_is : some_sum (moment_no t.base) ≡ tested_sums x s.client.sum e.moment.0 (extra_at s (length (stamps_kept s.settings.window now x.stamps) + 1))
       formed_is = et.formed ∙ ap₂ (λ a b. tested_sums x a e.moment.0 b) k.sum extra_is
 
       network_is : n ≡ extra_at s (length (stamps_kept s.settings.window now x.stamps) + 1) + s.settings.network_delay
@@ -183,22 +168,31 @@ module _ (l : Link) (s : State) (e : SimEvent) (now : ℕ) (f : Filled) (k : Lin
 
 -- ---- fit
 
-module _ (t : Tunnel) (d now : ℕ) (z : Side) (a b c : Bool) (ea : a ≡ fits (some_sum (base_of t.base))) (eb : b ≡ fits (moments (aggregates_of d z now (delayed_of t.by)))) (ec : c ≡ leb t.received.moment.0 moment_limit) where
-  fit_is : fits (tunnel_sums d z now (tunnel_of t)) ≡ (a && b) && (c && true)
-  unfolding fits
-  fit_is =
-      fits_append (some_sum (base_of t.base) ++ moments (aggregates_of d z now (delayed_of t.by))) (t.received.moment.0 ∷ [])
-      ∙ ap₂ ◌&&◌ (fits_append (some_sum (base_of t.base)) (moments (aggregates_of d z now (delayed_of t.by))) ∙ ap₂ ◌&&◌ (sym ea) (sym eb)) (ap (λ x. x && true) (sym ec))
+module _ (t : Tunnel) (d now : ℕ) (z : Side) where
+  due : Bool
+  due = fits (moments (aggregates_of d z now (delayed_of t.by)))
 
-  and_one : (x : Bool) → x && true ≡ x
-  and_one true = refl
-  and_one false = refl
+  -- v: whether the first two fit
+  pub First : Bool → Type 0
+  First v = v ≡ fits (some_sum (moment_no t.base)) && due
 
-  pub fit_all : a ≡ true → b ≡ true → c ≡ fits (tunnel_sums d z now (tunnel_of t))
-  fit_all p q = sym (fit_is ∙ ap₂ (λ x y. (x && y) && (c && true)) p q ∙ and_one c)
+  pub both_then : (a b v : Bool) → a ≡ fits (some_sum (moment_no t.base)) → b ≡ fits (moments (aggregates_of d z now (delayed_of t.by))) → a ≡ true → v ≡ b → First v
+  unfolding First due
+  both_then a b v ea eb p e = e ∙ eb ∙ ap (λ x. x && due) (sym p ∙ ea)
 
-  pub fit_due : a ≡ true → b ≡ false → false ≡ fits (tunnel_sums d z now (tunnel_of t))
-  fit_due p q = sym (fit_is ∙ ap₂ (λ x y. (x && y) && (c && true)) p q)
+  pub both_else : (a v : Bool) → a ≡ fits (some_sum (moment_no t.base)) → a ≡ false → v ≡ a → First v
+  unfolding First due
+  both_else a v ea p e = e ∙ p ∙ ap (λ x. x && due) (sym p ∙ ea)
 
-  pub fit_formed : a ≡ false → false ≡ fits (tunnel_sums d z now (tunnel_of t))
-  fit_formed p = sym (fit_is ∙ ap (λ x. (x && b) && (c && true)) p)
+  module _ (v : Bool) (ev : First v) where
+    by_first : fits (tunnel_sums d z now (tunnel_of t)) ≡ v && (leb t.received.moment.0 moment_limit && true)
+    unfolding fits First due
+    by_first =
+        fits_append (some_sum (moment_no t.base) ++ moments (aggregates_of d z now (delayed_of t.by))) (t.received.moment.0 ∷ [])
+        ∙ ap (λ x. x && (leb t.received.moment.0 moment_limit && true)) (fits_append (some_sum (moment_no t.base)) (moments (aggregates_of d z now (delayed_of t.by))) ∙ sym ev)
+
+    pub fit_last : (c : Bool) → c ≡ leb t.received.moment.0 moment_limit → v ≡ true → c ≡ fits (tunnel_sums d z now (tunnel_of t))
+    fit_last c ec p = ec ∙ and_one (leb t.received.moment.0 moment_limit) ∙ sym (by_first ∙ ap (λ x. x && (leb t.received.moment.0 moment_limit && true)) p)
+
+    pub fit_first : v ≡ false → v ≡ fits (tunnel_sums d z now (tunnel_of t))
+    fit_first p = p ∙ sym (by_first ∙ ap (λ x. x && (leb t.received.moment.0 moment_limit && true)) p)

@@ -1,17 +1,20 @@
 -- The packet that waits stands in blocking or bypassable. Assumes nothing.
-use Prim.Native.Nat.{ℕ, zero, suc, ◌<◌}
+use Prim.Native.Nat.{ℕ}
 use mathlib.Core.Path.{◌≡◌, refl, ap, subst}
 use mathlib.Core.Bool.{Bool, true, false}
 use mathlib.Core.List.{List, [], ◌∷◌}
 use mathlib.Core.Logic.{◌⊎◌, inl, inr}
 use mathlib.Core.Option.{Option, none, some}
 use native.Mathlib.Omega.{arith}
-use borrow.Author.Tests.{ne_eqb}
 use Rattle.std.specs.Prelude.{if◌then◌else◌}
 use Rattle.rules.specs.State.{Chain, Event, Held, SideState, base, blocking, bypassable, internal}
 use Rattle.rules.specs.ChoiceHeads.{Head, by_moment, first_by, head_as, waiting_head}
 use Rattle.queue.specs.declared.peek.Head.{Head as HeadFound}
-use Rattle.queue.specs.Heads.{chain_at, head_from}
+use Rattle.queue.specs.declared.header.Queue.{Queue}
+use Rattle.queue.specs.declared.header.Queue.TheVariants.{Base, Blocking, Bypassable, Internal}
+use Rattle.queue.specs.Queues.{queue_of}
+use Rattle.queue.specs.Heads.{head_from}
+use Rattle.delay.specs.Tests.{Packets}
 
 unfoldable Waits : Option Head → Type 0
 Waits none = Unit {0}
@@ -42,29 +45,23 @@ unfolding waiting_head
 waiting_waits true x = blocking_waits x.queues.blocking
 waiting_waits false x = first_waits by_moment _ _ (bypassable_waits x.queues.bypassable) (blocking_waits x.queues.blocking)
 
--- the number of a chain, as the client's are
-abbrev number_of : Chain → ℕ
-number_of base = 1
-number_of blocking = 2
-number_of bypassable = 3
-number_of internal = 4
+abbrev place_of : Chain → ℕ
+place_of base = 0
+place_of blocking = 1
+place_of bypassable = 2
+place_of internal = 3
 
-past_three : (n : ℕ) → 3 < n → number_of (chain_at n) ≡ 4
-past_three n l = rw (ne_eqb n 1 (λ e. omega arith), ne_eqb n 2 (λ e. omega arith), ne_eqb n 3 (λ e. omega arith))
+queue_waits : (q : Queue) → (queue_of q ≡ blocking) ⊎ (queue_of q ≡ bypassable) → Packets q
+queue_waits Base (inl e) = absurd (let z : ◌≡◌ {A = ℕ} 0 1 = ap place_of e in omega arith)
+queue_waits Base (inr e) = absurd (let z : ◌≡◌ {A = ℕ} 0 2 = ap place_of e in omega arith)
+queue_waits Blocking e = inl refl
+queue_waits Bypassable e = inr refl
+queue_waits Internal (inl e) = absurd (let z : ◌≡◌ {A = ℕ} 3 1 = ap place_of e in omega arith)
+queue_waits Internal (inr e) = absurd (let z : ◌≡◌ {A = ℕ} 3 2 = ap place_of e in omega arith)
 
-chain_number : (n : ℕ) → (number_of (chain_at n) ≡ 2 → n ≡ 2) × (number_of (chain_at n) ≡ 3 → n ≡ 3)
-chain_number zero = (λ e. absurd (omega arith), λ e. absurd (omega arith))
-chain_number (suc zero) = (λ e. absurd (omega arith), λ e. absurd (omega arith))
-chain_number (suc (suc zero)) = (λ e. refl, λ e. absurd (omega arith))
-chain_number (suc (suc (suc zero))) = (λ e. absurd (omega arith), λ e. refl)
-chain_number (suc (suc (suc (suc n)))) =
-    let p = past_three (suc (suc (suc (suc n)))) (omega arith) in (λ e. absurd (omega (arith, p)), λ e. absurd (omega (arith, p)))
-
-chain_waits : (h : HeadFound) → Waits (some (head_from h)) → (h.chain ≡ 2) ⊎ (h.chain ≡ 3)
+chain_waits : (h : HeadFound) → Waits (some (head_from h)) → Packets h.queue
 unfolding Waits head_from
-chain_waits h (inl e) = inl ((chain_number h.chain).0 (ap number_of e))
-chain_waits h (inr e) = inr ((chain_number h.chain).1 (ap number_of e))
+chain_waits h w = queue_waits h.queue w
 
--- by its number: 2 is blocking, 3 bypassable
-pub waits_in : (t : Bool) (x : SideState) (h : HeadFound) → waiting_head t x ≡ some (head_from h) → (h.chain ≡ 2) ⊎ (h.chain ≡ 3)
+pub waits_in : (t : Bool) (x : SideState) (h : HeadFound) → waiting_head t x ≡ some (head_from h) → Packets h.queue
 waits_in t x h e = chain_waits h (subst Waits e (waiting_waits t x))

@@ -1,7 +1,7 @@
 -- The aggregates of a delay, as the rules have them, and what adding them asks. Assumes nothing.
 use Rattle.std.specs.Prelude.{ℕ, ◌≤◌, ◌≡◌, List, [], ◌∷◌, map, length}
 use Rattle.std.proofs.Math.Option.{Option}
-use Rattle.rules.specs.Basics.{Side}
+use Rattle.rules.specs.Basics.{Side, client, server}
 use Rattle.rules.specs.State.{Aggregate}
 use Rattle.rules.specs.Limits.{moment_limit, duration_limit}
 use Rattle.rules.specs.Aggregates.{aggregates_of}
@@ -14,6 +14,13 @@ use Rattle.network.specs.declared.aggregate.TwoAggregates.{TwoAggregates}
 -- the client's, then the server's
 abbrev pub both_of : TwoAggregates → List Aggregate
 both_of b = aggregate_in b.client ∷ aggregate_in b.server ∷ []
+
+-- how many times the network delay a delay at the end z puts off the record of side r
+abbrev pub multiple : Side → Side → ℕ
+multiple client client = 4
+multiple client server = 3
+multiple server client = 1
+multiple server server = 4
 
 -- a record is due at m: its case says so, whichever of the eight it is (document 02, M-110)
 abbrev pub ByCases : Side → Side → ℕ → ℕ → ℕ → ℕ → Type 0

@@ -16,7 +16,8 @@ use Rattle.event.specs.HandedIn.{event_in}
 use Rattle.queue.specs.declared.peek.Head.{Head as HeadFound}
 use Rattle.event.specs.Values.{event_value}
 use Rattle.queue.specs.Heads.{head_from}
-use Rattle.delay.specs.Tests.{delayed_of, base_of, without}
+use Rattle.queue.specs.Views.{moment_no}
+use Rattle.delay.specs.Tests.{delayed_of, without}
 use Rattle.network.specs.declared.tunnel.Tunnel.{Tunnel}
 use Rattle.network.specs.declared.tunnel.Link.{Link}
 use Rattle.network.specs.declared.padding.Padding.{Padding}
@@ -66,7 +67,7 @@ pub record TunnelPlan : Type 0 where
   pub received : Event
 
 abbrev pub tunnel_of : Tunnel → TunnelPlan
-tunnel_of t = record { stale = t.stale; by = delayed_of t.by; formed = some_sum (base_of t.base); received = event_value t.received }
+tunnel_of t = record { stale = t.stale; by = delayed_of t.by; formed = some_sum (moment_no t.base); received = event_value t.received }
 
 -- what the window adds where it has c stamps
 abbrev pub extra_at : State → ℕ → ℕ
@@ -121,7 +122,7 @@ pub data PaddingPlan : Type 0 where
 unfoldable pub padding_of : Padding → PaddingPlan
 padding_of Own = own
 padding_of Dropped = dropped
-padding_of (Replaces r) = takes (head_from r.head) (delayed_of r.by) (some_sum (base_of r.base))
+padding_of (Replaces r) = takes (head_from r.head) (delayed_of r.by) (some_sum (moment_no r.base))
 
 -- the packet h is out of its queue at side x
 abbrev pub takes_from : SideState → ℕ → Head → PaddingPlan
@@ -129,7 +130,7 @@ takes_from x now h = takes h (on_replace x now h.event.moment) (test_sums x x.su
 
 -- the same of the code's head, by the side that it stands at
 unfoldable pub taken_over : SideState → ℕ → HeadFound → PaddingPlan
-taken_over x now h = takes_from (without x h.chain) now (head_from h)
+taken_over x now h = takes_from (without x h.queue) now (head_from h)
 
 -- what was found for the packet h that is taken over, and h as it was read, the number of its kind included
 pub record TakenAs (r : Replaced) (x : SideState) (now : ℕ) (h : HeadFound) : Type 0 where

@@ -1,27 +1,24 @@
 // What a step of `PaddingSent` is to do: a packet of its own, or in its place one that waits. specs/Plans has the same of the rules'
 // step_padding, proofs/PaddingLaws that the step is this and no more.
-ghost use Rattle.std.specs.Prelude.{◌≡◌, List, ℕ, ◌<◌, ◌≤◌, length};
+ghost use Rattle.std.specs.Prelude.{◌≡◌, ◌≤◌};
 ghost use Rattle.rules.specs.Limits.{moment_limit, duration_limit};
-ghost use Rattle.rules.specs.State.{side};
 ghost use Rattle.rules.specs.ChoiceRound.{fits};
-ghost use Rattle.event.specs.HandedIn.{side_of};
-ghost use Rattle.layout.specs.Accepted.{Good};
-ghost use Rattle.layout.specs.Layout.{state_from};
+ghost use Rattle.queue.specs.Views.{state_in, side_in};
+ghost use Rattle.delay.specs.Tests.{Packets};
 ghost use Rattle.network.specs.Plans.{padded_of, padding_of, padding_plan, padding_sums, padding_records, PaddingAs, TakenAs};
 
 use crate::aggregate;
-use delay::{Base, Delayed};
 use event::SimEvent;
 use moment::{Length, Moment};
-use queue::peek::{Found, Head};
-use queue::{header, peek};
+use queue::peek::Head;
+use queue::{View, header, peek};
 
 // A packet that is taken over, and what the test for an aggregate found.
 #[derive(Clone, Copy)]
 pub struct Replaced {
     pub head: Head,
-    pub by: Delayed,
-    pub base: Base,
+    pub by: Option<Length>,
+    pub base: Option<Moment>,
 }
 
 // What the step is to do.
@@ -33,54 +30,35 @@ pub enum Padding {
 }
 
 // The packet that waits is taken over.
-fn replacement(head: &[u64], rest: &[u64], h: Head, client: bool, time: Moment) -> Replaced
-    requires fact_1 { length head.now ≡ 256 }
-    requires fact_2 { Good head.now rest.now }
-    requires fact_3 { 1 < h.chain }
-    requires fact_4 { h.chain < 4 }
-    ensures { TakenAs result (side (state_from head.now rest.now) (side_of client)) time.0 h }
+fn replacement(view: &View, h: Head, client: bool, time: Moment) -> Replaced
+    requires { Packets h.queue }
+    ensures { TakenAs result (side_in view.now.words client) time.0 h }
 {
-    let sum = header::of_side(head, header::SUM, client);
-    let margins = delay::usual();
     let tested = delay::agg_delay_on_padding_bypass_replace(
-        head,
-        rest,
-        h.chain,
+        view,
+        h.queue,
         client,
         time,
         h.event.moment,
-        Length(sum),
-        margins,
+        Length(view.words.of_side(header::SUM, client)),
+        delay::usual(),
     );
-    let by = tested.by;
-    let base = tested.base;
-    Replaced { head: h, by, base }
-}
-
-// The side's bypassable flag, as it stands.
-fn flag_of(head: &[u64], client: bool) -> bool
-    requires { length head.now ≡ 256 }
-    ensures { (rs : List ℕ) → result ≡ (side (state_from head.now rs) (side_of client)).block_bypassable }
-{
-    let word = header::of_side(head, header::BYPASSABLE, client);
-    if word == 0 {
-        return false;
+    Replaced {
+        head: h,
+        by: tested.by,
+        base: tested.base,
     }
-    true
 }
 
 // What the step is to do. No block is needed.
-pub fn plan(head: &[u64], rest: &[u64], e: SimEvent, time: Moment) -> Padding
-    requires fact_1 { length head.now ≡ 256 }
-    requires fact_2 { Good head.now rest.now }
-    ensures { PaddingAs result (padding_plan (state_from head.now rest.now) time.0 (padded_of e)) }
+pub fn plan(view: &View, e: SimEvent, time: Moment) -> Padding
+    ensures { PaddingAs result (padding_plan (state_in view.now.words) time.0 (padded_of e)) }
 {
     if !e.replace {
         return Padding::Own;
     }
-    let flag = flag_of(head, e.client);
-    let found = peek::peek_blocking(head, rest, flag, e.client);
-    let Found::At(h) = found else {
+    let bypassable = view.words.is_bypassable(e.client);
+    let Some(h) = peek::peek_blocking(view, bypassable, e.client) else {
         return Padding::Own;
     };
     if h.event.padding {
@@ -89,7 +67,7 @@ pub fn plan(head: &[u64], rest: &[u64], e: SimEvent, time: Moment) -> Padding
     if !e.bypass {
         return Padding::Dropped;
     }
-    Padding::Replaces(replacement(head, rest, h, e.client, time))
+    Padding::Replaces(replacement(view, h, e.client, time))
 }
 
 // How many records more are in use after it.
@@ -99,10 +77,7 @@ pub fn records_for(p: Padding) -> u64
     match p {
         Padding::Own => 1,
         Padding::Dropped => 0,
-        Padding::Replaces(r) => {
-            let by = r.by;
-            aggregate::records_for(by)
-        }
+        Padding::Replaces(r) => aggregate::records_for(r.by),
     }
 }
 
@@ -112,14 +87,7 @@ fn replaced_fits(r: Replaced, delay: Length, time: Moment) -> bool
     requires fact_2 { time.0 ≤ moment_limit }
     ensures { result ≡ fits (padding_sums delay.0 time.0 (padding_of (Padding.Replaces r))) }
 {
-    let base = r.base;
-    let by = r.by;
-    let formed = aggregate::base_fits(base);
-    let due = aggregate::fit(delay, r.head.event.client, time, by);
-    if formed {
-        return due;
-    }
-    false
+    aggregate::base_fits(r.base) && aggregate::fit(delay, r.head.event.client, time, r.by)
 }
 
 // Whether the sums that it forms are within the limit.
@@ -129,8 +97,7 @@ pub fn fit(p: Padding, delay: Length, time: Moment) -> bool
     ensures { result ≡ fits (padding_sums delay.0 time.0 (padding_of p)) }
 {
     match p {
-        Padding::Own => true,
-        Padding::Dropped => true,
+        Padding::Own | Padding::Dropped => true,
         Padding::Replaces(r) => replaced_fits(r, delay, time),
     }
 }

@@ -1,32 +1,28 @@
 // What a step of `TunnelSent` is to do: a stamp, the delay of a full window with its test for an aggregate, and `TunnelRecv` at the
 // other side. specs/Plans has the same of the rules' step_tunnel, proofs/TunnelLaws that the step is this and no more.
-ghost use Rattle.std.specs.Prelude.{◌≡◌, false, List, ℕ, ◌≤◌, length};
+ghost use Rattle.std.specs.Prelude.{◌≡◌, false, ◌≤◌};
 ghost use Rattle.rules.specs.Basics.{other, TunnelRecv};
 ghost use Rattle.rules.specs.Limits.{moment_limit, duration_limit};
-ghost use Rattle.rules.specs.State.{side};
 ghost use Rattle.rules.specs.NetworkStep.{packet, reported as reported_at};
 ghost use Rattle.rules.specs.ChoiceRound.{fits};
 ghost use Rattle.event.specs.HandedIn.{side_of};
-ghost use Rattle.layout.specs.Accepted.{Good};
-ghost use Rattle.layout.specs.Header.{Limited};
-ghost use Rattle.layout.specs.Layout.{state_from};
 ghost use Rattle.event.specs.Values.{event_value};
+ghost use Rattle.queue.specs.Views.{state_in, side_in};
 ghost use Rattle.delay.specs.Tests.{TestedAs};
 ghost use Rattle.network.specs.Plans.{sent_of, Sendable, LinkAs, tested_by, tested_sums, tunnel_of, tunnel_plan, tunnel_sums};
 
-use crate::window::Rate;
 use crate::{aggregate, window};
-use delay::{Base, Delayed, Tested};
+use delay::Tested;
 use event::{Kind, SimEvent};
 use moment::{Length, Moment};
-use queue::header;
+use queue::{View, header};
 
 // What the step is to do.
 #[derive(Clone, Copy)]
 pub struct Tunnel {
     pub stale: u64,
-    pub by: Delayed,
-    pub base: Base,
+    pub by: Option<Length>,
+    pub base: Option<Moment>,
     pub received: SimEvent,
 }
 
@@ -35,62 +31,46 @@ pub struct Tunnel {
 pub struct Link {
     pub delay: Length,
     pub window: Length,
-    pub rate: Rate,
+    pub rate: Option<u64>,
     pub sum: Length,
     pub reporting: Length,
 }
 
-fn link_of(head: &[u64], client: bool) -> Link
-    requires fact_1 { length head.now ≡ 256 }
-    requires fact_2 { Limited head.now }
-    ensures { (rs : List ℕ) → LinkAs result (state_from head.now rs) (side_of client) }
+fn link_of(view: &View, client: bool) -> Link
+    ensures { LinkAs result (state_in view.now.words) (side_of client) }
 {
-    let rate = window::rate_of(head[1], head[2]);
-    let sum = header::of_side(head, header::SUM, true);
-    let reporting = header::of_side(head, header::REPORTING_DELAY, !client);
     Link {
-        delay: Length(head[0]),
-        window: Length(head[3]),
-        rate,
-        sum: Length(sum),
-        reporting: Length(reporting),
+        delay: Length(view.words.header[0]),
+        window: Length(view.words.header[3]),
+        rate: window::rate_of(view.words.header[1], view.words.header[2]),
+        sum: Length(view.words.of_side(header::SUM, true)),
+        reporting: Length(view.words.of_side(header::REPORTING_DELAY, !client)),
     }
 }
 
 // A packet of the moment `from` that is delayed is tested for an aggregate.
-fn test(
-    head: &[u64],
-    rest: &[u64],
-    client: bool,
-    from: Moment,
-    extra: Length,
-    sum: Length,
-) -> Tested
-    requires fact_1 { length head.now ≡ 256 }
-    requires fact_2 { Good head.now rest.now }
-    requires fact_3 { sum.0 ≤ moment_limit }
+fn test(view: &View, client: bool, from: Moment, extra: Length, sum: Length) -> Tested
+    requires { sum.0 ≤ moment_limit }
     ensures { TestedAs result
-        (tested_by (side (state_from head.now rest.now) (side_of client)) sum.0 from.0 extra.0)
-        (tested_sums (side (state_from head.now rest.now) (side_of client)) sum.0 from.0 extra.0) }
+        (tested_by (side_in view.now.words client) sum.0 from.0 extra.0)
+        (tested_sums (side_in view.now.words client) sum.0 from.0 extra.0) }
 {
     if extra.0 == 0 {
         return Tested {
-            by: Delayed::Nothing,
-            base: Base::Nothing,
+            by: None,
+            base: None,
         };
     }
-    let margins = delay::usual();
-    let asked = delay::should_delayed_packet_prop_agg_delay(head, rest, client, from, sum, margins);
-    let base = asked.base;
-    if asked.yes {
-        return Tested {
-            by: Delayed::By(extra),
-            base,
-        };
-    }
+    let asked = delay::should_delayed_packet_prop_agg_delay(
+        view,
+        client,
+        from,
+        sum,
+        delay::usual(),
+    );
     Tested {
-        by: Delayed::Nothing,
-        base,
+        by: asked.yes.then_some(extra),
+        base: asked.base,
     }
 }
 
@@ -108,7 +88,7 @@ fn reported(e: SimEvent, time: Moment, network: Length, reporting: Length) -> Mo
         .less(e.delay)
         .plus(network)
         .plus(reporting)
-        .later(time)
+        .max(time)
 }
 
 // The packet at the recipient.
@@ -132,24 +112,18 @@ fn arrival(e: SimEvent, time: Moment, network: Length, reporting: Length) -> Sim
 }
 
 // What the step is to do.
-pub fn plan(head: &[u64], rest: &[u64], e: SimEvent, time: Moment) -> Tunnel
-    requires fact_1 { length head.now ≡ 256 }
-    requires fact_2 { Good head.now rest.now }
-    requires fact_3 { length rest.now ≤ 262140 }
-    requires fact_4 { Sendable e time.0 }
-    ensures { tunnel_of result ≡ tunnel_plan (state_from head.now rest.now) time.0 (sent_of e) }
+pub fn plan(view: &View, e: SimEvent, time: Moment) -> Tunnel
+    requires { Sendable e time.0 }
+    ensures { tunnel_of result ≡ tunnel_plan (state_in view.now.words) time.0 (sent_of e) }
 {
-    let link = link_of(head, e.client);
-    let rate = link.rate;
-    let filled = window::fill(head, rest, e.client, time, link.window, rate);
-    let tested = test(head, rest, e.client, e.moment, filled.extra, link.sum);
-    let by = tested.by;
-    let base = tested.base;
+    let link = link_of(view, e.client);
+    let filled = window::fill(view, e.client, time, link.window, link.rate);
+    let tested = test(view, e.client, e.moment, filled.extra, link.sum);
     let received = arrival(e, time, filled.extra.plus(link.delay), link.reporting);
     Tunnel {
         stale: filled.stale,
-        by,
-        base,
+        by: tested.by,
+        base: tested.base,
         received,
     }
 }
@@ -160,16 +134,7 @@ pub fn fit(t: Tunnel, delay: Length, client: bool, time: Moment) -> bool
     requires fact_2 { time.0 ≤ moment_limit }
     ensures { result ≡ fits (tunnel_sums delay.0 (side_of client) time.0 (tunnel_of t)) }
 {
-    let base = t.base;
-    let by = t.by;
-    let formed = aggregate::base_fits(base);
-    let due = aggregate::fit(delay, client, time, by);
-    let moment = t.received.moment.fits();
-    if formed {
-        if due {
-            return moment;
-        }
-        return false;
-    }
-    false
+    aggregate::base_fits(t.base)
+        && aggregate::fit(delay, client, time, t.by)
+        && t.received.moment.fits()
 }

@@ -12,8 +12,8 @@ use Rattle.rules.specs.NetworkStep.{Stepped, step_padding, step_tunnel}
 use Rattle.laws.specs.CountFalls.{padding_tells_none}
 use Rattle.event.specs.HandedIn.{side_of}
 use Rattle.event.specs.declared.SimEvent.{SimEvent}
-use Rattle.event.specs.declared.answer.Falls.{Falls}
-use Rattle.event.specs.declared.answer.Falls.TheVariants.{Never}
+use Rattle.std.specs.Prelude.{Option, None}
+use Rattle.moment.specs.declared.Moment.{Moment}
 use Rattle.layout.specs.Layout.{state_of}
 use Rattle.queue.specs.Changes.{Leaves, count_in}
 use Rattle.queue.specs.Pushes.{MayPush}
@@ -31,11 +31,11 @@ use Rattle.network_stack.proofs.PlanLaws.{after_pad, after_send}
 use Rattle.network_stack.proofs.FullLaws.{full_pad, full_queue, full_send}
 
 -- the same step, by an equation
-carried_as : (w left : List ℕ) (x y : Stepped) (f : Falls) → Carried w left x f → x ≡ y → Carried w left y f
+carried_as : (w left : List ℕ) (x y : Stepped) (f : Option Moment) → Carried w left x f → x ≡ y → Carried w left y f
 carried_as w left x y f c e = subst (λ z. Carried w left z f) e c
 
 module _ (w : List ℕ) (p : Plan) (e : SimEvent) (d now : ℕ) (may : MayMake w p e d now) where
-  pub make_nothing : p ≡ Nothing → Carried w w (after_of (state_of w) now e) Never
+  pub make_nothing : p ≡ Nothing → Carried w w (after_of (state_of w) now e) None
   unfolding Planned
   make_nothing q =
       let is = subst (Planned (state_of w) now e) q may.plan in
@@ -56,8 +56,8 @@ module _ (w : List ℕ) (p : Plan) (e : SimEvent) (d now : ℕ) (may : MayMake w
     pub queue_may : MayPush w v
     queue_may = record { shaped = accepted_shaped w may.accepted; free = omega (arith, queue_free); canonical = queues.canonical }
 
-    pub make_queue : (left : List ℕ) → Leaves w left (push_event (state_of w) (event_value v)) → Carried w left (after_of (state_of w) now e) Never
-    make_queue left l = carried_as w left _ _ Never (record { leaves = l; falls = refl }) (sym queues.step)
+    pub make_queue : (left : List ℕ) → Leaves w left (push_event (state_of w) (event_value v)) → Carried w left (after_of (state_of w) now e) None
+    make_queue left l = carried_as w left _ _ None (record { leaves = l; falls = refl }) (sym queues.step)
 
   module _ (v : Padding) (q : p ≡ Pad v) where
     pads : Pads (state_of w) now e v
@@ -70,9 +70,9 @@ module _ (w : List ℕ) (p : Plan) (e : SimEvent) (d now : ℕ) (may : MayMake w
     pub pad_may : MayPad w v e d now
     pad_may = record { accepted = may.accepted; plan = pads.plan; free = omega (arith, pad_free); delay = may.delay; time = may.time }
 
-    pub make_pad : (left : List ℕ) → Leaves w left (step_padding (state_of w) now (padded_of e)).state → Carried w left (after_of (state_of w) now e) Never
+    pub make_pad : (left : List ℕ) → Leaves w left (step_padding (state_of w) now (padded_of e)).state → Carried w left (after_of (state_of w) now e) None
     make_pad left l =
-        carried_as w left _ _ Never (record { leaves = l; falls = sym (padding_tells_none (state_of w) now (padded_of e)) }) (sym (after_pad (state_of w) now e pads.kind))
+        carried_as w left _ _ None (record { leaves = l; falls = sym (padding_tells_none (state_of w) now (padded_of e)) }) (sym (after_pad (state_of w) now e pads.kind))
 
   module _ (t : Tunnel) (q : p ≡ Send t) where
     sends : Sends (state_of w) now e t
@@ -87,5 +87,5 @@ module _ (w : List ℕ) (p : Plan) (e : SimEvent) (d now : ℕ) (may : MayMake w
     pub send_may : MaySend w t e d now
     send_may = record { accepted = may.accepted; plan = sends.plan; free = omega (arith, send_free); delay = may.delay; time = may.time }
 
-    pub make_send : (left : List ℕ) (f : Falls) → Carried w left (step_tunnel (state_of w) now (sent_of e)) f → Carried w left (after_of (state_of w) now e) f
+    pub make_send : (left : List ℕ) (f : Option Moment) → Carried w left (step_tunnel (state_of w) now (sent_of e)) f → Carried w left (after_of (state_of w) now e) f
     make_send left f c = carried_as w left _ _ f c (sym (after_send (state_of w) now e sends.kind))

@@ -21,10 +21,10 @@ use Rattle.queue_event.specs.Chain.{Chain, nodes}
 use Rattle.queue.proofs.Queueing.{released_stamp, stamps_are}
 use Rattle.queue.proofs.Sizes.{stamps_length}
 use Rattle.network.proofs.StampLaws.{evict_le}
-use Rattle.queue_event.proofs.Laws.{chain_next, nodes_next, pred_is}
+use Rattle.queue_event.proofs.Laws.{chain_next, nodes_next}
 use Rattle.layout.proofs.Banks.{chains_at}
-use Rattle.queue.proofs.Changing.{first_in, shaped_wide}
-use Rattle.network_stack.specs.Windows.{Evicting, Evicted, MayEvict}
+use Rattle.queue.proofs.Changing.{first_in}
+use Rattle.network_stack.specs.Windows.{Evicting, Evicted}
 
 -- ---- how many are stale
 
@@ -102,32 +102,26 @@ module _ (w : List ℕ) (z : Side) (s : Shaped w) where
 
 -- ---- the loop
 
-module _ (w : List ℕ) (z : Side) (a gone : ℕ) (may : MayEvict w z a gone) where
-  pub evicting_starts : Evicting w w z gone gone a
-  evicting_starts = record { shaped = may.shaped; size = refl; beside = λ i l o. refl; same = refl; some = may.some; first = may.first }
-
-module _ (w v : List ℕ) (z : Side) (gone left a : ℕ) (at : Evicting w v z gone left a) where
-  pub evict_wide : 256 ≤ length v
-  evict_wide = shaped_wide v at.shaped
-
-  counted : 0 < left → 0 < count_in v (5 + 5 * side_no z)
+-- after n turns
+module _ (w v : List ℕ) (z : Side) (gone n a : ℕ) (at : Evicting w v z gone (gone - n) a) where
+  counted : n < gone → 0 < count_in v (5 + 5 * side_no z)
   counted more = omega (arith, at.some, stamps_length v z)
 
-  pub evict_in : 0 < left → In (drop 256 v) a
+  pub evict_in : n < gone → In (drop 256 v) a
   evict_in more = rw (at.first ∙ stamps_first v z at.shaped) (first_in v at.shaped (5 + 5 * side_no z) (no_small z) (counted more))
 
   -- one turn
-  module _ (more : 0 < left) (k : ℕ) (ek : (k ≡ 5 + 5 * side_no z) × (k ≤ 10)) where
+  module _ (more : n < gone) (k : ℕ) (ek : (k ≡ 5 + 5 * side_no z) × (k ≤ 10)) where
     pub evict_may : MayRelease v k
     evict_may = record { shaped = at.shaped; chain = omega (arith, ek.1); used = omega (arith, ek.0); some = omega (arith, counted more, ap (count_in v) ek.0) }
 
-    pub evict_turn : (u : List ℕ) (b : ℕ) → b ≡ next_of (drop 256 v) a → Released v u k → Evicting w u z gone (left - 1) b
+    pub evict_turn : (u : List ℕ) (b : ℕ) → b ≡ next_of (drop 256 v) a → Released v u k → Evicting w u z gone (gone - (n + 1)) b
     evict_turn u b e r =
         record {
           shaped = r.shaped;
           size = r.size ∙ at.size;
           beside = λ i l o. r.beside i l o ∙ at.beside i l o;
-          same = ap (λ s. drop_stamps (left - 1) s z) is ∙ ap (λ n. drop_stamps n (state_of v) z) (sym (pred_is left more)) ∙ at.same;
+          same = ap (λ s. drop_stamps (gone - (n + 1)) s z) is ∙ ap (λ n. drop_stamps n (state_of v) z) (sym one_less) ∙ at.same;
           some = omega (arith, ap length stamps, tail_less (side (state_of v) z).stamps, at.some);
           first = e ∙ ap (next_of (drop 256 v)) (at.first ∙ stamps_first v z at.shaped) ∙ sym (stamps_second v z at.shaped (counted more)) ∙ ap first_place (sym stamps);
         }
@@ -138,12 +132,15 @@ module _ (w v : List ℕ) (z : Side) (gone left a : ℕ) (at : Evicting w v z go
         stamps : (side (state_of u) z).stamps ≡ tail (side (state_of v) z).stamps
         stamps = ap (λ s. (side s z).stamps) is ∙ stamps_kept_lem (state_of v) z
 
+        one_less : gone - n ≡ suc (gone - (n + 1))
+        one_less = omega arith
+
   -- none is left to go
-  module _ (no_more : left ≤ 0) where
+  module _ (no_more : gone ≤ n) where
     left_is : state_of v ≡ drop_stamps gone (state_of w) z
     left_is = ap (λ n. drop_stamps n (state_of v) z) (sym zero_left) ∙ at.same
       where
-        zero_left : left ≡ 0
+        zero_left : gone - n ≡ 0
         zero_left = omega arith
 
     pub evict_done : Evicted w v z gone a

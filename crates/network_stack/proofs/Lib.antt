@@ -1,7 +1,6 @@
 pub mod EvictLaws
 pub mod WindowLaws
 pub mod TellLaws
-pub mod WindowValues
 pub mod PacketLaws
 pub mod TakeLaws
 pub mod MakeLaws

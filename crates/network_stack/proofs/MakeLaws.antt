@@ -25,7 +25,8 @@ use Rattle.queue.specs.Changes.{Leaves, count_in}
 use Rattle.queue.specs.Heads.{head_from}
 use Rattle.queue.specs.Pushes.{Canonical, MayPush}
 use Rattle.event.specs.Values.{event_value}
-use Rattle.delay.specs.Tests.{base_of, delayed_of}
+use Rattle.queue.specs.Views.{moment_no}
+use Rattle.delay.specs.Tests.{delayed_of}
 use Rattle.network.specs.declared.padding.Padding.{Padding}
 use Rattle.network.specs.declared.padding.Padding.TheVariants.{Dropped, Own, Replaces}
 use Rattle.network.specs.declared.padding.Replaced.{Replaced}
@@ -35,7 +36,7 @@ use Rattle.network.specs.Stamps.{evicted_count}
 use Rattle.network.specs.Plans.{dropped, own, padded_of, padding_of, padding_plan, padding_step, plan_replacing, sent_of, takes, takes_from, tunnel_plan, tunnel_step}
 use Rattle.layout.proofs.Shapes.{accepted_shaped}
 use Rattle.layout.proofs.Theorems.{holds_accepted}
-use Rattle.queue.proofs.Sizes.{free_length, leaves_then}
+use Rattle.queue.proofs.Sizes.{free_length}
 use Rattle.network.proofs.AggregateLaws.{adds_free}
 use Rattle.network.proofs.PaddingLaws.{padding_step_lem}
 use Rattle.network.proofs.RoomLaws.{aggregates_long}
@@ -60,12 +61,6 @@ module _ (w : List ℕ) (r : Replaced) (d now : ℕ) (may : MayReplace w r d now
 
     pub replace_aggregate : MayAggregate v d (side_of r.head.event.client) now (delayed_of r.by)
     replace_aggregate = record { shaped = l.shaped; free = omega (arith, may.free, free_same); delay = may.delay; time = may.time }
-
-    pub replace_done : (left : List ℕ) → Leaves v left (add_aggregates (state_of v) (aggregates_of d (side_of r.head.event.client) now (delayed_of r.by)))
-        → Leaves w left (add_aggregates (passed_on (state_of w) (head_from r.head)) (aggregates_of d (side_of r.head.event.client) now (delayed_of r.by)))
-    replace_done left m =
-        leaves_then w v left _ _ l
-        (subst (λ s. Leaves v left (add_aggregates s (aggregates_of d (side_of r.head.event.client) now (delayed_of r.by)))) l.state m)
 
 -- ---- the packet that waits
 
@@ -117,7 +112,7 @@ module _ (w : List ℕ) (p : Padding) (e : SimEvent) (d now : ℕ) (may : MayPad
         }
 
   module _ (r : Replaced) (q : p ≡ Replaces r) where
-    plan_is : takes (head_from r.head) (delayed_of r.by) (some_sum (base_of r.base)) ≡ padding_plan (state_of w) now (padded_of e)
+    plan_is : takes (head_from r.head) (delayed_of r.by) (some_sum (moment_no r.base)) ≡ padding_plan (state_of w) now (padded_of e)
     unfolding padding_of
     plan_is = sym (ap padding_of q) ∙ may.plan
 
@@ -131,7 +126,7 @@ module _ (w : List ℕ) (p : Padding) (e : SimEvent) (d now : ℕ) (may : MayPad
           head =
               record {
                 shaped = accepted_shaped w may.accepted;
-                chain = waits_in (side (state_of w) (side_of e.client)).block_bypassable (side (state_of w) (side_of e.client)) r.head waits_is;
+                queue = waits_in (side (state_of w) (side_of e.client)).block_bypassable (side (state_of w) (side_of e.client)) r.head waits_is;
                 first = subst (HeadOf (state_of w)) waits_is (waiting_first_lem (state_of w) (side_of e.client) (side (state_of w) (side_of e.client)).block_bypassable (holds_accepted w may.accepted).sound);
               };
           free = omega (arith, rw q at may.free, aggregates_long d (side_of r.head.event.client) now (delayed_of r.by));

@@ -1,10 +1,11 @@
 -- Laws of the plan of a step, kind by kind: the step, its answer and its sums. Assumes nothing.
-use Prim.Native.Nat.{ℕ, zero, suc, ◌-◌, ◌≤◌}
+use Prim.Native.Nat.{ℕ, zero, suc}
 use mathlib.Core.Path.{◌≡◌, refl, sym, ap, ◌∙◌, ap₂}
 use mathlib.Core.Bool.{Bool, true, false}
 use mathlib.Core.List.{List}
+use mathlib.Core.Logic.{◌⊎◌, inl, inr}
 use native.Mathlib.Decide.{ℕ_discrete}
-use lib.ListN.{drop, length, take}
+use lib.ListN.{length, take}
 use Rattle.rules.specs.Basics.{Side, TunnelSent, kind_of}
 use Rattle.rules.specs.State.{State}
 use Rattle.rules.specs.Effects.{after_step}
@@ -14,19 +15,15 @@ use Rattle.event.specs.HandedIn.{event_in, side_of}
 use Rattle.event.specs.declared.SimEvent.{SimEvent}
 use Rattle.network.specs.declared.padding.Padding.{Padding}
 use Rattle.network.specs.declared.tunnel.Tunnel.{Tunnel}
-use Rattle.network.specs.Plans.{PaddingPlan, Sendable, dropped, own, padded_of, padding_of, padding_plan, padding_step, padding_sums, sent_of, takes, tunnel_of, tunnel_plan, tunnel_sums, PaddingAs}
-use Rattle.layout.specs.Accepted.{Accepted, Good}
-use Rattle.layout.specs.Layout.{state_from, state_of}
+use Rattle.network.specs.Plans.{PaddingPlan, dropped, own, padded_of, padding_of, padding_plan, padding_step, padding_sums, sent_of, takes, tunnel_of, tunnel_plan, tunnel_sums, PaddingAs}
+use Rattle.layout.specs.Accepted.{Accepted}
 use Rattle.network.proofs.PaddingLaws.{padding_step_lem, padding_sums_lem}
 use Rattle.network.proofs.TunnelLaws.{tunnel_sums_lem}
-use Rattle.layout.proofs.Parts.{head_length, rest_length, rest_part}
+use Rattle.layout.proofs.Parts.{head_length}
 use Rattle.network_stack.specs.declared.plan.Plan.{Plan}
 use Rattle.network_stack.specs.declared.plan.Plan.TheVariants.{Nothing, Pad, Queue, Send}
 use Rattle.network_stack.specs.Packets.{Packet, receipt_kind}
-use Rattle.network_stack.specs.Steps.{Handed, Planned, after_of, plan_sums}
-
-pub sendable : (e : SimEvent) (now : ℕ) → Handed e now → e.kind.0 ≡ 0 → Sendable e now
-sendable e now h k = record { moment = h.moment; delay = h.delay; time = h.time; back = h.back k }
+use Rattle.network_stack.specs.Steps.{Planned, after_of, plan_sums}
 
 -- ---- the rules' step, by the number of the kind
 
@@ -100,30 +97,25 @@ pad_answer s now e = ap (λ r. r.answer) (padding_step_lem s now (padded_of e)) 
     go dropped = refl
     go (takes h by f) = refl
 
-pub active_sent : (k : ℕ) → k ≡ 0 → (s : State) (t : ℕ) (e : SimEvent) → e.kind.0 ≡ k → true ≡ (after_of s t e).answer
-active_sent k q s t e r = sym (ap (λ x. x.answer) (after_send s t e (r ∙ q)) ∙ send_answer s t e)
+pub active_yes : (k : ℕ) → (k ≡ 0) ⊎ (k ≡ 3) → (s : State) (t : ℕ) (e : SimEvent) → e.kind.0 ≡ k → true ≡ (after_of s t e).answer
+active_yes k (inl q) s t e r = sym (ap (λ x. x.answer) (after_send s t e (r ∙ q)) ∙ send_answer s t e)
+active_yes k (inr q) s t e r = sym (ap (λ x. x.answer) (after_recv s t e (r ∙ q)))
 
-pub active_recv : (k : ℕ) → k ≡ 3 → (s : State) (t : ℕ) (e : SimEvent) → e.kind.0 ≡ k → true ≡ (after_of s t e).answer
-active_recv k q s t e r = sym (ap (λ x. x.answer) (after_recv s t e (r ∙ q)))
-
-pub active_not : (k : ℕ) → (k ≡ 0 → ⊥) → (k ≡ 3 → ⊥) → (s : State) (t : ℕ) (e : SimEvent) → e.kind.0 ≡ k → false ≡ (after_of s t e).answer
-active_not k a b s t e r = go (ℕ_discrete k 1) (ℕ_discrete k 2)
+pub active_not : (k : ℕ) → ((k ≡ 0) ⊎ (k ≡ 3) → ⊥) → (s : State) (t : ℕ) (e : SimEvent) → e.kind.0 ≡ k → false ≡ (after_of s t e).answer
+active_not k a s t e r = go (ℕ_discrete k 1) (ℕ_discrete k 2)
   where
     go : Dec (k ≡ 1) → Dec (k ≡ 2) → false ≡ (after_of s t e).answer
     go (yes q) d = sym (ap (λ x. x.answer) (after_normal s t e (r ∙ q)))
     go (no n) (yes q) = sym (ap (λ x. x.answer) (after_pad s t e (r ∙ q)) ∙ pad_answer s t e)
-    go (no n) (no m) = sym (ap (λ x. x.answer) (after_none s t e (λ z. a (sym r ∙ z)) (λ z. n (sym r ∙ z)) (λ z. m (sym r ∙ z)) (λ z. b (sym r ∙ z))))
+    go (no n) (no m) = sym (ap (λ x. x.answer) (after_none s t e (λ z. a (inl (sym r ∙ z))) (λ z. n (sym r ∙ z)) (λ z. m (sym r ∙ z)) (λ z. a (inr (sym r ∙ z)))))
 
 -- ---- fit
 
 module _ (p : Plan) (z : Side) (d now : ℕ) where
-  pub fit_nothing : p ≡ Nothing → true ≡ fits (plan_sums d z now p)
+  pub fit_none : (p ≡ Nothing) ⊎ ((v : SimEvent) × (p ≡ Queue v)) → true ≡ fits (plan_sums d z now p)
   unfolding plan_sums fits
-  fit_nothing q = sym (ap (λ x. fits (plan_sums d z now x)) q)
-
-  pub fit_queue : (v : SimEvent) → p ≡ Queue v → true ≡ fits (plan_sums d z now p)
-  unfolding plan_sums fits
-  fit_queue v q = sym (ap (λ x. fits (plan_sums d z now x)) q)
+  fit_none (inl q) = sym (ap (λ x. fits (plan_sums d z now x)) q)
+  fit_none (inr q) = sym (ap (λ x. fits (plan_sums d z now x)) q.1)
 
   pub fit_pad : (v : Padding) (b : Bool) → p ≡ Pad v → b ≡ fits (padding_sums d now (padding_of v)) → b ≡ fits (plan_sums d z now p)
   unfolding plan_sums
@@ -144,17 +136,7 @@ planned_fits s now e (Pad v) d pl ed =
 planned_fits s now e (Send v) d pl ed =
     ap₂ (λ x y. fits (tunnel_sums x (side_of e.client) now y)) ed pl.plan ∙ tunnel_sums_lem s now (sent_of e) ∙ ap (λ r. fits r.sums) (sym (after_send s now e pl.kind))
 
--- ---- the block lent in two parts
+-- ---- the front of the block
 
-module _ (w : List ℕ) (a : Accepted w) where
-  pub front_long : length (take 256 w) ≡ 256
-  front_long = head_length w a.size.least
-
-  pub parts_good : Good (take 256 w) (take (length w - 256) (drop 256 w))
-  parts_good = rw rest_part a.good
-
-  pub back_short : length (take (length w - 256) (drop 256 w)) ≤ 262140
-  back_short = rest_length w a.size.most
-
-pub parts_planned : (w : List ℕ) (now : ℕ) (e : SimEvent) (p : Plan) → Planned (state_from (take 256 w) (take (length w - 256) (drop 256 w))) now e p → Planned (state_of w) now e p
-parts_planned w now e p q = rw rest_part at q
+pub front_long : (w : List ℕ) → Accepted w → length (take 256 w) ≡ 256
+front_long w a = head_length w a.size.least

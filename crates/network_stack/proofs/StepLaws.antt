@@ -4,7 +4,7 @@ use mathlib.Core.Path.{◌≡◌, refl, sym, ap, ap₂, ◌∙◌}
 use mathlib.Core.Bool.{Bool, true, false, false≢true}
 use mathlib.Core.List.{List}
 use mathlib.Core.Logic.{◌⊎◌}
-use mathlib.Core.Option.{Option}
+use mathlib.Core.Option.{Option as MathOption}
 use native.Mathlib.Omega.{arith}
 use lib.ListN.{get_or, set, take, length-set}
 use lib.Seq.{get_or-set_other, get_or-take}
@@ -21,8 +21,11 @@ use Rattle.rules.specs.Refusals.{full}
 use Rattle.event.specs.Answers.{falls_of}
 use Rattle.event.specs.HandedIn.{event_in, side_of}
 use Rattle.event.specs.declared.SimEvent.{SimEvent}
-use Rattle.event.specs.declared.answer.Falls.{Falls}
-use Rattle.event.specs.declared.answer.Step.TheVariants.{Made, Refused}
+use Rattle.std.specs.Prelude.{Option, Ok, Err}
+use Rattle.event.specs.Answers.{refusal_for, refused_by}
+use Rattle.event.specs.declared.answer.Reason.TheVariants.{NoRoom, PastLimit}
+use Rattle.event.specs.declared.answer.Refusal.{Refusal}
+use Rattle.moment.specs.declared.Moment.{Moment}
 use Rattle.layout.specs.Accepted.{Accepted}
 use Rattle.layout.specs.Layout.{state_from, state_of}
 use Rattle.layout.specs.Spare.{Spare}
@@ -70,7 +73,7 @@ module _ (w : List ℕ) (a : Accepted w) where
 
 -- ---- the answers are told apart
 
-not_ten : (b : Bool) (f : Option ℕ) → step_made b f ≡ refused 10 0 → ⊥
+not_ten : (b : Bool) (f : MathOption ℕ) → step_made b f ≡ refused 10 0 → ⊥
 not_ten b f e = let z : ◌≡◌ {A = ℕ} 0 1 = cc in omega arith
 
 nine_ten : ◌≡◌ {A = RulesAnswer} (refused 9 0) (refused 10 0) → ⊥
@@ -96,29 +99,29 @@ module _ (w : List ℕ) (e : SimEvent) (now : ℕ) (p : Plan) (may : MayStep w e
   full_is : x ≡ full (after_of (state_of w) now e).state
   full_is = ex ∙ planned_full w may.accepted now e p pl
 
-  pub step_nine : x ≡ true → StepDone w now e (Refused (record { number = 9; rounds = 0 })) w
+  pub step_nine : x ≡ true → (r : Refusal) → r ≡ refusal_for NoRoom → StepDone w now e (Err r) w
   unfolding after_of
-  step_nine t =
+  step_nine t r er =
       record {
-        nine = λ f. (refl, refl);
+        nine = λ f. (ap refused_by er, refl);
         answer = λ f. clash _ (sym full_is ∙ t) f;
         state = λ f. clash _ (sym full_is ∙ t) f;
         shaped = accepted_shaped w may.accepted;
         size = refl;
         spare = λ i s. refl;
-        ten = λ q. absurd (nine_ten q);
+        ten = λ q. absurd (nine_ten (ap refused_by (sym er) ∙ q));
       }
 
   module _ (no : x ≡ false) (y : Bool) (ey : y ≡ fits (plan_sums (get_or w 0 0) (side_of e.client) now p)) where
     fits_is : y ≡ fits (after_of (state_of w) now e).sums
     fits_is = ey ∙ planned_fits (state_of w) now e p (get_or w 0 0) pl (delay_is w may.accepted)
 
-    pub step_ten : y ≡ false → StepDone w now e (Refused (record { number = 10; rounds = 0 })) (set w 16 1)
+    pub step_ten : y ≡ false → (r : Refusal) → r ≡ refusal_for PastLimit → StepDone w now e (Err r) (set w 16 1)
     unfolding after_of
-    step_ten t =
+    step_ten t r er =
         record {
           nine = λ f. clash _ f (sym full_is ∙ no);
-          answer = λ f. sym (ap (λ b. (if◌then◌else◌ b (leaves after.state (step_made after.answer after.falls)) (leaves (with_ended (state_of w) true) (refused 10 0))).answer) no_fit);
+          answer = λ f. ap refused_by er ∙ sym (ap (λ b. (if◌then◌else◌ b (leaves after.state (step_made after.answer after.falls)) (leaves (with_ended (state_of w) true) (refused 10 0))).answer) no_fit);
           state = λ f.
               ended_stored w (accepted_shaped w may.accepted) 1
               ∙ sym (ap (λ b. (if◌then◌else◌ b (leaves after.state (step_made after.answer after.falls)) (leaves (with_ended (state_of w) true) (refused 10 0))).state) no_fit);
@@ -135,8 +138,8 @@ module _ (w : List ℕ) (e : SimEvent) (now : ℕ) (p : Plan) (may : MayStep w e
         no_fit = sym fits_is ∙ t
 
     module _ (yes : y ≡ true) where
-      pub step_done : (left : List ℕ) (b : Bool) (f : Falls) → Carried w left (after_of (state_of w) now e) f
-          → ((s : State) (t : ℕ) (v : SimEvent) → v.kind.0 ≡ e.kind.0 → b ≡ (after_of s t v).answer) → StepDone w now e (Made (record { active = b; falls = f })) left
+      pub step_done : (left : List ℕ) (b : Bool) (f : Option Moment) → Carried w left (after_of (state_of w) now e) f
+          → ((s : State) (t : ℕ) (v : SimEvent) → v.kind.0 ≡ e.kind.0 → b ≡ (after_of s t v).answer) → StepDone w now e (Ok (record { active = b; falls = f })) left
       unfolding after_of
       step_done left b f c eb =
           record {

@@ -3,7 +3,7 @@ use Prim.Native.Nat.{ℕ, ◌+◌, ◌*◌, ◌%◌, ◌≤◌, ◌<◌}
 use mathlib.Core.Path.{◌≡◌, refl, sym, ap, ap₂, subst, ◌∙◌}
 use mathlib.Core.Bool.{true, false}
 use mathlib.Core.List.{List, [], ◌∷◌, map, head?}
-use mathlib.Core.Logic.{◌⊎◌, inl, inr}
+use mathlib.Core.Logic.{inl, inr}
 use mathlib.Core.Option.{Option, none, some}
 use native.Mathlib.Omega.{arith}
 use lib.ListN.{length, take, drop}
@@ -24,13 +24,17 @@ use Rattle.layout.specs.Shape.{Shapes}
 use Rattle.layout.specs.Changes.{chain_no, side_no}
 use Rattle.queue.specs.declared.peek.Head.{Head}
 use Rattle.queue.specs.Changes.{Leaves, MayRelease, Released, chains_in, count_in, head_in}
-use Rattle.queue.specs.Heads.{chain_at, head_from}
+use Rattle.queue.specs.declared.header.Queue.{Queue}
+use Rattle.queue.specs.Queues.{queue_no, queue_of}
+use Rattle.queue.specs.Heads.{head_from}
 use Rattle.queue.specs.Pushes.{MayPush}
 use Rattle.layout.proofs.TwoChains.{queue_built}
 use Rattle.queue.proofs.Changing.{first_is, first_node, shaped_records}
+use Rattle.queue.proofs.HeadsChains.{chain_number}
 use Rattle.queue.proofs.Queueing.{released_event}
 use Rattle.queue.proofs.Sizes.{free_length, queue_length}
 use Rattle.queue.proofs.Stamping.{take_push}
+use Rattle.delay.specs.Tests.{Packets}
 use Rattle.network_stack.specs.Packets.{MayTakeOver, Packet, passed_on}
 
 -- ---- the first of a list
@@ -47,41 +51,39 @@ event_in : Event → Option (Held Event) → Event
 event_in v none = v
 event_in v (some x) = x.value
 
--- ---- numbers of the two chains
+-- ---- the numbers of the two queues
 
-number_of : (z : Side) (n k : ℕ) → (n ≡ 2) ⊎ (n ≡ 3) → k ≡ n + 5 * side_no z → (chain_no z (chain_at n) ≡ k) × (k % 5 ≡ n)
-number_of client n k (inl e) ek = (ap (λ i. chain_no client (chain_at i)) e ∙ omega arith, omega arith)
-number_of client n k (inr e) ek = (ap (λ i. chain_no client (chain_at i)) e ∙ omega arith, omega arith)
-number_of server n k (inl e) ek = (ap (λ i. chain_no server (chain_at i)) e ∙ omega arith, omega arith)
-number_of server n k (inr e) ek = (ap (λ i. chain_no server (chain_at i)) e ∙ omega arith, omega arith)
+waits : (q : Queue) → Packets q → (1 < queue_no q) × (queue_no q < 4)
+waits q (inl e) = (omega (arith, ap queue_no e), omega (arith, ap queue_no e))
+waits q (inr e) = (omega (arith, ap queue_no e), omega (arith, ap queue_no e))
 
-waits : (n : ℕ) → (n ≡ 2) ⊎ (n ≡ 3) → (1 < n) × (n < 4)
-waits n (inl e) = (omega arith, omega arith)
-waits n (inr e) = (omega arith, omega arith)
-
-pub take_small : (w : List ℕ) (h : Head) → MayTakeOver w h → h.chain ≤ 5
-take_small w h may = omega (arith, (waits h.chain may.chain).1)
+of_five : (n : ℕ) (z : Side) → n < 4 → (n + 5 * side_no z) % 5 ≡ n
+of_five n client l = omega arith
+of_five n server l = omega arith
 
 -- ---- the head, as the words have it
 
-module _ (w : List ℕ) (h : Head) (k : ℕ) (may : MayTakeOver w h) (ek : (k ≡ h.chain + 5 * side_no (side_of h.event.client)) × (k ≤ 10)) where
-  number : (chain_no (side_of h.event.client) (chain_at h.chain) ≡ k) × (k % 5 ≡ h.chain)
-  number = number_of (side_of h.event.client) h.chain k may.chain ek.0
+module _ (w : List ℕ) (h : Head) (k : ℕ) (may : MayTakeOver w h) (ek : (k ≡ queue_no h.queue + 5 * side_no (side_of h.event.client)) × (k ≤ 10)) where
+  number : (chain_no (side_of h.event.client) (queue_of h.queue) ≡ k) × (k % 5 ≡ queue_no h.queue)
+  number = (
+    chain_number h.queue (side_of h.event.client) ∙ sym ek.0,
+    ap (λ i. i % 5) ek.0 ∙ of_five (queue_no h.queue) (side_of h.event.client) (waits h.queue may.queue).1,
+  )
 
   low : 0 < k
-  low = omega (arith, (waits h.chain may.chain).0, ek.0)
+  low = omega (arith, (waits h.queue may.queue).0, ek.0)
 
   small : k < 12
   small = omega (arith, ek.1)
 
-  held : head? (queue (side (state_of w) (side_of h.event.client)).queues (chain_at h.chain)) ≡ some (in_record h.place (event_value h.event))
+  held : head? (queue (side (state_of w) (side_of h.event.client)).queues (queue_of h.queue)) ≡ some (in_record h.place (event_value h.event))
   unfolding head_from
   held = may.first
 
   counted : 0 < count_in w k
   counted =
       omega
-      (arith, some_first (queue (side (state_of w) (side_of h.event.client)).queues (chain_at h.chain)) _ held, queue_length w (side_of h.event.client) (chain_at h.chain), ap (count_in w) number.0)
+      (arith, some_first (queue (side (state_of w) (side_of h.event.client)).queues (queue_of h.queue)) _ held, queue_length w (side_of h.event.client) (queue_of h.queue), ap (count_in w) number.0)
 
   pub take_may : MayRelease w k
   take_may = record { shaped = may.shaped; chain = small; used = low; some = counted }
@@ -94,7 +96,7 @@ module _ (w : List ℕ) (h : Head) (k : ℕ) (may : MayTakeOver w h) (ek : (k �
   held_node =
       ap (λ l. head? (map (held_event (side_of h.event.client)) l)) (sym (first_is w may.shaped k small counted))
       ∙ ap (λ i. head? (map (held_event (side_of h.event.client)) (chains_in w i))) (sym number.0)
-      ∙ ap head? (sym (queue_built (take 256 w) (drop 256 w) (side_of h.event.client) (chain_at h.chain)))
+      ∙ ap head? (sym (queue_built (take 256 w) (drop 256 w) (side_of h.event.client) (queue_of h.queue)))
       ∙ held
 
   place_is : h.place ≡ head_in w k
@@ -108,10 +110,10 @@ module _ (w : List ℕ) (h : Head) (k : ℕ) (may : MayTakeOver w h) (ek : (k �
   -- it is a `TunnelSent`, without a machine
   shape : EventShape (k % 5) node.rec.tag
   unfolding node Shapes
-  shape = (subst (Shapes k) (first_is w may.shaped k small counted) (shaped_records w may.shaped k small)).0.event (omega (arith, (waits h.chain may.chain).0, number.1)) (omega (arith, ek.1))
+  shape = (subst (Shapes k) (first_is w may.shaped k small counted) (shaped_records w may.shaped k small)).0.event (omega (arith, (waits h.queue may.queue).0, number.1)) (omega (arith, ek.1))
 
   kind_zero : kind_field node.rec.tag ≡ 0
-  kind_zero = shape.kind.waiting (omega (arith, (waits h.chain may.chain).0, number.1)) (omega (arith, (waits h.chain may.chain).1, number.1))
+  kind_zero = shape.kind.waiting (omega (arith, (waits h.queue may.queue).0, number.1)) (omega (arith, (waits h.queue may.queue).1, number.1))
 
   machine_zero : machine_field node.rec.tag ≡ 0
   machine_zero = shape.machine (λ e. omega (arith, kind_zero)) (λ e. omega (arith, kind_zero)) (omega (arith, kind_zero))
@@ -143,7 +145,7 @@ module _ (w : List ℕ) (h : Head) (k : ℕ) (may : MayTakeOver w h) (ek : (k �
   module _ (v : List ℕ) (r : Released w v k) where
     released : state_of v ≡ take_event (state_of w) (head_from h)
     unfolding head_from
-    released = released_event w v k r (side_of h.event.client) (chain_at h.chain) (head_from h) number.0 refl refl place_is
+    released = released_event w v k r (side_of h.event.client) (queue_of h.queue) (head_from h) number.0 refl refl place_is
 
     one_free : 0 < count_in v 0
     unfolding take_event

@@ -2,13 +2,10 @@
 use Prim.Native.Nat.{◌*◌, ◌+◌, ◌-◌, ◌<◌, ◌≤◌, ℕ}
 use mathlib.Core.List.{List, ◌∷◌, map}
 use mathlib.Core.Path.{◌∙◌, ◌≡◌, ap, refl, subst, sym}
-use mathlib.Core.Bool.{Bool, true, false}
-use mathlib.Core.Option.{some, none}
 use native.Mathlib.Omega.{arith}
-use lib.Dec.{leb, lit<}
+use lib.Dec.{lit<}
 use lib.ListN.{drop, get_or, length, take}
 use lib.Seq.{get_or-take}
-use Rattle.std.specs.Prelude.{if◌then◌else◌}
 use Rattle.rules.specs.Basics.{Side, client, server}
 use Rattle.rules.specs.State.{Held, State, free_place, in_record, side}
 use Rattle.rules.specs.Limits.{duration_limit, moment_limit}
@@ -17,7 +14,8 @@ use Rattle.laws.specs.Fits.{All}
 use Rattle.laws.specs.Sound.{sound_side}
 use Rattle.laws.specs.SoundStep.{stamp_sound}
 use Rattle.event.specs.Answers.{falls_of}
-use Rattle.event.specs.declared.answer.Falls.{Falls}
+use Rattle.std.specs.Prelude.{Option}
+use Rattle.moment.specs.declared.Moment.{Moment}
 use Rattle.queue_event.specs.Chain.{nodes, rec_at}
 use Rattle.queue_event.specs.Words.{In, moment_of, next_of}
 use Rattle.layout.specs.Changes.{put_chain, side_no}
@@ -34,22 +32,6 @@ use Rattle.network_stack.specs.declared.window_count.Window.{Window}
 use Rattle.network_stack.specs.declared.window_count.WindowCount.{WindowCount}
 use Rattle.network_stack.proofs.EvictLaws.{no_small, nodes_are}
 use Rattle.network_stack.proofs.WindowLaws.{length_appended, stamp_stored}
-
--- ---- too_old_from
-
--- from a stamp at t on, and its window w: the moment m, a nanosecond past what is within the window
-module _ (w t a m : ℕ) (b : Bool) (ea : a ≡ t + w) (em : m ≡ a + 1) (eb : b ≡ leb m moment_limit) where
-  from_is : m ≡ t + w + 1
-  from_is = em ∙ ap (λ n. n + 1) ea
-
-  by_limit : (if b then some m else none) ≡ too_old_from w t
-  by_limit = ap (λ c. if c then some m else none) eb ∙ ap (λ n. if leb n moment_limit then some n else none) from_is
-
-  pub told_at : b ≡ true → some m ≡ too_old_from w t
-  told_at q = sym (ap (λ c. if c then some m else none) q) ∙ by_limit
-
-  pub told_never : b ≡ false → none ≡ too_old_from w t
-  told_never q = sym (ap (λ c. if c then some m else none) q) ∙ by_limit
 
 -- ---- the oldest stamp, in the words
 
@@ -94,7 +76,7 @@ module _ (v : List ℕ) (z : Side) (k : ℕ) (may : MayTell v z) (ek : (k ≡ 5 
     pub oldest_small : m ≤ moment_limit
     oldest_small = (subst (All (λ (t : Held ℕ). t.value ≤ moment_limit)) stamps_are may.stamps).0
 
-    pub tells : (f : Falls) → falls_of f ≡ too_old_from (get_or v 3 0) m
+    pub tells : (f : Option Moment) → falls_of f ≡ too_old_from (get_or v 3 0) m
         → window_told (record { count = get_or v (25 + 2 * k) 0; falls = f }) ≡ stamp_tells (state_of v).settings.window (side (state_of v) z).stamps
     tells f e =
         λ d. record {

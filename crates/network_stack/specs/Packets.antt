@@ -1,5 +1,5 @@
 -- The packets that a step queues, and what a plan asks before it is carried out. Assumes nothing.
-use Rattle.std.specs.Prelude.{ℕ, ◌+◌, ◌≤◌, ◌≡◌, Bool, false, List, ◌⊎◌, length, if◌then◌else◌}
+use Rattle.std.specs.Prelude.{ℕ, ◌+◌, ◌≤◌, ◌≡◌, Bool, false, List, Option, length, if◌then◌else◌}
 use Rattle.std.proofs.Math.Option.{some}
 use Rattle.rules.specs.Basics.{NormalRecv, PaddingRecv}
 use Rattle.rules.specs.State.{Event, State, in_record}
@@ -12,8 +12,8 @@ use Rattle.rules.specs.NetworkStep.{Stepped, let_pass, packet}
 use Rattle.laws.specs.Heads.{HeadOf}
 use Rattle.event.specs.HandedIn.{side_of}
 use Rattle.event.specs.Answers.{falls_of}
-use Rattle.event.specs.declared.answer.Falls.{Falls}
 use Rattle.event.specs.declared.SimEvent.{SimEvent}
+use Rattle.moment.specs.declared.Moment.{Moment}
 use Rattle.layout.specs.Accepted.{Accepted}
 use Rattle.layout.specs.Layout.{state_of}
 use Rattle.layout.specs.Shape.{Shaped}
@@ -22,7 +22,7 @@ use Rattle.queue.specs.Changes.{Leaves, count_in}
 use Rattle.queue.specs.Heads.{head_from}
 use Rattle.queue.specs.Pushes.{Canonical}
 use Rattle.event.specs.Values.{event_value}
-use Rattle.delay.specs.Tests.{delayed_of}
+use Rattle.delay.specs.Tests.{delayed_of, Packets}
 use Rattle.network.specs.declared.padding.Padding.{Padding}
 use Rattle.network.specs.declared.padding.Replaced.{Replaced}
 use Rattle.network.specs.declared.tunnel.Tunnel.{Tunnel}
@@ -46,10 +46,10 @@ receipt_kind e = packet (if e.padding then PaddingRecv else NormalRecv) e.moment
 unfoldable pub passed_on : State → RulesHead → State
 passed_on s h = put_event (lift_event s h) (in_record h.place (let_pass h.event))
 
--- h is the head of blocking (2) or bypassable (3)
+-- h is the head of blocking or bypassable
 pub record MayTakeOver (w : List ℕ) (h : Head) : Type 0 where
   pub shaped : Shaped w
-  pub chain : (h.chain ≡ 2) ⊎ (h.chain ≡ 3)
+  pub queue : Packets h.queue
   pub first : HeadOf (state_of w) (some (head_from h))
 
 -- and the aggregates have free records
@@ -80,6 +80,6 @@ pub record MaySend (w : List ℕ) (t : Tunnel) (e : SimEvent) (d now : ℕ) : Ty
 -- ---- a step that is carried out
 
 -- the state held is the one that the step x leaves, and f is when it says that the packet count falls
-pub record Carried (w left : List ℕ) (x : Stepped) (f : Falls) : Type 0 where
+pub record Carried (w left : List ℕ) (x : Stepped) (f : Option Moment) : Type 0 where
   pub leaves : Leaves w left x.state
   pub falls : falls_of f ≡ x.falls

@@ -1,5 +1,5 @@
 -- A network step on an accepted state: what its plan says of the rules' step, what any plan forms and takes, and what the call asks and leaves. Assumes nothing.
-use Rattle.std.specs.Prelude.{ℕ, ◌+◌, ◌≤◌, ◌≡◌, Bool, false, true, List, [], ltb, get_or, length}
+use Rattle.std.specs.Prelude.{ℕ, ◌+◌, ◌≤◌, ◌≡◌, Bool, false, true, List, [], Result, ltb, get_or, length}
 use Rattle.rules.specs.Basics.{Side, client, kind_of}
 use Rattle.rules.specs.State.{State, reserved}
 use Rattle.rules.specs.Limits.{delay_limit, moment_limit}
@@ -12,7 +12,8 @@ use Rattle.rules.specs.Calls.{stepped}
 use Rattle.event.specs.Answers.{step_of}
 use Rattle.event.specs.HandedIn.{event_in}
 use Rattle.event.specs.declared.SimEvent.{SimEvent}
-use Rattle.event.specs.declared.answer.Step.{Step}
+use Rattle.event.specs.declared.answer.Refusal.{Refusal}
+use Rattle.event.specs.declared.answer.Stepped.{Stepped as SteppedOf}
 use Rattle.layout.specs.Accepted.{Accepted}
 use Rattle.layout.specs.Layout.{state_of}
 use Rattle.layout.specs.Shape.{Shaped}
@@ -110,7 +111,7 @@ pub record MayStep (w : List ℕ) (e : SimEvent) (now : ℕ) : Type 0 where
   pub handed : Handed e now
 
 -- number 9 where the records would not do, and then nothing is changed; else the answer and the state of the rules, number 10 included
-pub record StepDone (w : List ℕ) (now : ℕ) (e : SimEvent) (a : Step) (left : List ℕ) : Type 0 where
+pub record StepDone (w : List ℕ) (now : ℕ) (e : SimEvent) (a : Result SteppedOf Refusal) (left : List ℕ) : Type 0 where
   pub nine : full (after_step (state_of w) now (event_in e) (kind_of e.kind.0)).state ≡ true → (step_of a ≡ refused 9 0) × (left ≡ w)
   pub answer :
       full (after_step (state_of w) now (event_in e) (kind_of e.kind.0)).state ≡ false

@@ -11,17 +11,13 @@ use event::{Kind, SimEvent};
 pub fn tunnel_sent(e: SimEvent, padding: bool, bypass: bool, replace: bool) -> SimEvent
     ensures { Packet result (packet TunnelSent e.moment.0 e.delay.0 (side_of e.client) padding bypass replace) }
 {
-    let moment = e.moment;
-    let delay = e.delay;
     SimEvent {
         kind: Kind(Kind::TUNNEL_SENT),
-        moment,
-        delay,
-        client: e.client,
         padding,
         bypass,
         replace,
         machine: 0,
+        ..e
     }
 }
 
@@ -30,26 +26,21 @@ fn receipt_kind(padding: bool) -> u64
     ensures { result ≡ receipt_no padding }
 {
     if padding {
-        return Kind::PADDING_RECV;
+        Kind::PADDING_RECV
+    } else {
+        Kind::NORMAL_RECV
     }
-    Kind::NORMAL_RECV
 }
 
 // What a `TunnelRecv` becomes.
 pub fn receipt(e: SimEvent) -> SimEvent
     ensures { Packet result (receipt_kind e) }
 {
-    let kind = receipt_kind(e.padding);
-    let moment = e.moment;
-    let delay = e.delay;
     SimEvent {
-        kind: Kind(kind),
-        moment,
-        delay,
-        client: e.client,
-        padding: e.padding,
+        kind: Kind(receipt_kind(e.padding)),
         bypass: false,
         replace: false,
         machine: 0,
+        ..e
     }
 }

@@ -27,9 +27,6 @@ pub fn no_room(block: &[u64], p: Plan) -> bool
         Plan::Nothing => false,
         Plan::Queue(_) => free < reserve + 1,
         Plan::Pad(q) => free < reserve + network::padding::records_for(q),
-        Plan::Send(t) => {
-            let by = t.by;
-            free + t.stale < reserve + 2 + network::aggregate::records_for(by)
-        }
+        Plan::Send(t) => free + t.stale < reserve + 2 + network::aggregate::records_for(t.by),
     }
 }

@@ -3,7 +3,6 @@ use Prim.Native.Nat.{ℕ, zero, suc, ◌+◌, ◌-◌, ◌*◌, ◌≤◌, ◌<�
 use mathlib.Core.Path.{◌≡◌, refl, sym, ap, ◌∙◌}
 use mathlib.Core.List.{List, [], ◌∷◌, ◌++◌, append_assoc, append-nil}
 use native.Mathlib.Nat.{not-suc-le-zero}
-use native.Mathlib.Numerals.{sub-one, add-one}
 use native.Mathlib.Omega.{arith}
 use lib.ListN.{length, set, take, length-set}
 use lib.Seq.{take-suc-set}
@@ -119,11 +118,11 @@ module _ (rest goal out₀ : List ℕ) (end : ℕ) (out : List ℕ) (n h p : ℕ
   pub copy_in : 0 < n → Copies rest goal out₀ end out n h p → In out p
   copy_in l c = record { one = c.one; fits = omega (arith, c.ends, c.fits) }
 
-  pub copy_from : 0 < n → Copies rest goal out₀ end out n h p → In rest h
-  copy_from l c = row_in rest n h l c.row
+  pub copy_from : Copies rest goal out₀ end out n h p → 0 < n → In rest h
+  copy_from c l = row_in rest n h l c.row
 
-  pub copy_end : (place count : ℕ) → end ≡ place + count → n ≤ 0 → Copies rest goal out₀ end out n h p → take (4 * (place + count) - 4) out ≡ goal
-  copy_end place count e l c = ap (λ k. take (4 * k - 4) out) (sym e ∙ sym c.ends ∙ all) ∙ done c.whole
+  pub copy_end : (place count : ℕ) → Copies rest goal out₀ end out n h p → end ≡ place + count → n ≤ 0 → take (4 * (place + count) - 4) out ≡ goal
+  copy_end place count c e l = ap (λ k. take (4 * k - 4) out) (sym e ∙ sym c.ends ∙ all) ∙ done c.whole
     where
       all : p + n ≡ p
       all = omega arith
@@ -159,8 +158,10 @@ step rest goal out₀ end out n h p c = record {
     long = length_filled out p (link_of (suc n) p) (moment_of rest h) (length_of rest h) (tag_of rest h)
 
 pub copy_turn :
-    (rest goal out₀ : List ℕ) (end : ℕ) (out out' : List ℕ) (n h p next h' : ℕ) → 0 < n → next ≡ link_of n p → out' ≡ copied rest h out p next
-    → h' ≡ next_of rest h
-    → Copies rest goal out₀ end out n h p → Copies rest goal out₀ end out' (n - 1) h' (p + 1)
-copy_turn rest goal out₀ end out out' zero h p next h' l en eo eh c = absurd (not-suc-le-zero l)
-copy_turn rest goal out₀ end out out' (suc n) h p next h' l en eo eh c = rw (eo, en, eh, sub-one, add-one) (step rest goal out₀ end out n h p c)
+    (rest goal out₀ : List ℕ) (end : ℕ) (out out' : List ℕ) (count i h p next h' : ℕ) → i < count → next ≡ link_of (count - i) (p + i)
+    → out' ≡ copied rest h out (p + i) next → h' ≡ next_of rest h
+    → Copies rest goal out₀ end out (count - i) h (p + i) → Copies rest goal out₀ end out' (count - (i + 1)) h' (p + (i + 1))
+copy_turn rest goal out₀ end out out' count i h p next h' l en eo eh c =
+    let some : count - i ≡ suc (count - (i + 1)) = omega arith in
+    let after : p + (i + 1) ≡ suc (p + i) = omega arith in
+    rw (eo, en, eh, some, after) (step rest goal out₀ end out (count - (i + 1)) h (p + i) (rw some at c))

@@ -1,12 +1,10 @@
 -- The header written: each of its words, and the heads and counts that stand in it. Assumes nothing.
 use Prim.Native.Nat.{ℕ, zero, suc, ◌+◌, ◌-◌, ◌*◌, ◌/◌, ◌%◌, ◌≤◌, ◌<◌}
 use mathlib.Core.Path.{◌≡◌, refl, sym, ap, subst, ◌∙◌}
-use mathlib.Core.Bool.{Bool, true, false, ◌&&◌, ◌||◌}
+use mathlib.Core.Bool.{Bool, true, false}
 use mathlib.Core.List.{List}
-use native.Mathlib.Numerals.{add-one}
 use native.Mathlib.Omega.{arith}
 use native.Mathlib.Decide.{ℕ_discrete}
-use lib.Dec.{leb, ltb}
 use lib.ListN.{length, get_or, set, take, length-set}
 use lib.Seq.{get_or-set_same, get_or-set_other, get_or-take, length-take-le, ext_get_or}
 use borrow.Author.Tests.{lt-ltb, le-ltb, le-leb, lt-leb, eq-eqb, ne_eqb}
@@ -15,33 +13,10 @@ use Rattle.layout.specs.Spare.{spare}
 use Rattle.layout.specs.Opened.{table}
 use Rattle.layout.specs.Packed.{header_word}
 use Rattle.layout.proofs.Tables.{length_table, table_at}
-use Rattle.packing.specs.Heads.{sum_to, first_for, start_of, header_from, Reads, Starts, HeaderTo}
-
--- ---- the words without a meaning, by their bounds
-
-pub at_last : (i : ℕ) → 192 ≤ i → ltb i 256 ≡ spare i
-unfolding spare
-at_last i a = rw (le-leb 18 i (omega arith), le-ltb i 24 (omega arith), le-leb 48 i (omega arith), le-ltb i 64 (omega arith), le-leb 192 i a) refl
-
-pub at_slots : (i : ℕ) → i < 192 → 64 ≤ i → false ≡ spare i
-unfolding spare
-at_slots i a b = rw (le-leb 18 i (omega arith), le-ltb i 24 (omega arith), le-leb 48 i (omega arith), le-ltb i 64 b, lt-leb 192 i a) refl
-
-pub at_after : (i : ℕ) → i < 64 → 48 ≤ i → true ≡ spare i
-unfolding spare
-at_after i a b = rw (le-leb 18 i (omega arith), le-ltb i 24 (omega arith), le-leb 48 i b, lt-ltb i 64 a) refl
-
-pub at_heads : (i : ℕ) → i < 48 → 24 ≤ i → false ≡ spare i
-unfolding spare
-at_heads i a b = rw (le-leb 18 i (omega arith), le-ltb i 24 b, lt-leb 48 i a, lt-leb 192 i (omega arith)) refl
-
-pub at_first : (i : ℕ) → i < 24 → leb 18 i ≡ spare i
-unfolding spare
-at_first i a = rw (lt-ltb i 24 a, lt-leb 48 i (omega arith), lt-leb 192 i (omega arith)) (only (leb 18 i))
-  where
-    only : (b : Bool) → b ≡ (b && true) || (false && ltb i 64) || (false && ltb i 256)
-    only true = refl
-    only false = refl
+use Rattle.std.proofs.Math.ListN.{get_or-map}
+use Rattle.std.proofs.Math.Seq.{map-set, map-set_same}
+use Rattle.packing.specs.declared.header.Chain.{Chain}
+use Rattle.packing.specs.Heads.{heads_of, counts_of, sum_to, first_for, start_of, header_from, Reads, Starts, HeaderTo}
 
 -- ---- a word of the header
 
@@ -90,9 +65,6 @@ all_words f l n b c = ext_get_or 0 (take n l) (table n f) (long ∙ sym (length_
 -- ---- the heads and counts that the old header has
 
 module _ (h heads counts : List ℕ) where
-  pub reads_none : length heads ≡ 12 → length counts ≡ 12 → Reads h heads counts 0
-  reads_none a b = record { most = omega arith; long_heads = a; long_counts = b; firsts = λ j q. absurd (omega arith); numbers = λ j q. absurd (omega arith) }
-
   pub reads_turn :
       (k a n : ℕ) → k < 12 → a ≡ get_or h (24 + 2 * k) 0 → n ≡ get_or h (25 + 2 * k) 0 → Reads h heads counts k → Reads h (set heads k a) (set counts k n) (k + 1)
   reads_turn k a n l ea en c = record {
@@ -103,27 +75,9 @@ module _ (h heads counts : List ℕ) where
     numbers = one_more (count_of h) counts k n (omega (arith, c.long_counts)) en c.numbers;
   }
 
-  pub reads_heads : (k : ℕ) → 12 ≤ k → Reads h heads counts k → (j : ℕ) → j < 12 → get_or heads j 0 ≡ head_of h j
-  reads_heads k l c j q = c.firsts j (omega arith)
-
-  pub reads_counts : (k : ℕ) → 12 ≤ k → Reads h heads counts k → (j : ℕ) → j < 12 → get_or counts j 0 ≡ count_of h j
-  reads_counts k l c j q = c.numbers j (omega arith)
-
 -- ---- the words of the new header
 
 module _ (h heads counts out₀ : List ℕ) where
-  pub header_none : HeaderTo h heads counts out₀ out₀ 0
-  header_none = record { most = omega arith; len = refl; words = λ j q. absurd (omega arith) }
-
-  pub header_turn :
-      (out : List ℕ) (i v : ℕ) → 256 ≤ length out₀ → i < 256 → v ≡ header_from h heads counts i → HeaderTo h heads counts out₀ out i
-      → HeaderTo h heads counts out₀ (set out i v) (i + 1)
-  header_turn out i v b l e c = record {
-    most = omega arith;
-    len = length-set out i v ∙ c.len;
-    words = one_more (header_from h heads counts) out i v (omega (arith, c.len)) e c.words;
-  }
-
   pub header_all :
       (out : List ℕ) (i : ℕ) → 256 ≤ length out₀ → 256 ≤ i → HeaderTo h heads counts out₀ out i
       → take 256 out ≡ table 256 (header_from h heads counts)
@@ -164,17 +118,24 @@ unfolding sum_to
 starts_none counts starts e = record { most = omega arith; long = e; next = refl; heads = λ k q. absurd (omega arith) }
 
 pub starts_fit :
-    (counts starts : List ℕ) (d place : ℕ) → sum_to counts 11 ≤ 65535 → d < 11 → Starts counts starts d place
-    → place + get_or counts (d + 1) 0 ≤ 65536
-starts_fit counts starts d place m l c = rw add-one (omega (arith, c.next, sum_next counts d, sum_least counts (suc d) 11 (omega arith)))
+    (counts starts : List ℕ) (k place : ℕ) → sum_to counts 11 ≤ 65535 → 1 ≤ k → k < 12 → Starts counts starts (k - 1) place
+    → place + get_or counts k 0 ≤ 65536
+starts_fit counts starts zero place m o l c = absurd (omega (arith, o))
+starts_fit counts starts (suc d) place m o l c =
+    let same : suc d - 1 ≡ d = omega arith in
+    omega (arith, (rw same at c).next, sum_next counts d, sum_least counts (suc d) 11 (omega arith))
 
 pub starts_turn :
-    (counts starts : List ℕ) (d place v : ℕ) → d < 11 → v ≡ first_for place (get_or counts (d + 1) 0) → Starts counts starts d place
-    → Starts counts (set starts (d + 1) v) (d + 1) (place + get_or counts (d + 1) 0)
-starts_turn counts starts d place v l e c = rw add-one (turn (rw add-one at e))
+    (counts starts : List ℕ) (k place v : ℕ) → 1 ≤ k → k < 12 → v ≡ first_for place (get_or counts k 0) → Starts counts starts (k - 1) place
+    → Starts counts (set starts k v) (k + 1 - 1) (place + get_or counts k 0)
+starts_turn counts starts zero place v o l e c = absurd (omega (arith, o))
+starts_turn counts starts (suc d) place v o l e s =
+    let before : suc d - 1 ≡ d = omega arith in
+    let after : suc d + 1 - 1 ≡ suc d = omega arith in
+    rw after (turn (rw before at s))
   where
-    turn : v ≡ first_for place (get_or counts (suc d) 0) → Starts counts (set starts (suc d) v) (suc d) (place + get_or counts (suc d) 0)
-    turn e' = record {
+    turn : Starts counts starts d place → Starts counts (set starts (suc d) v) (suc d) (place + get_or counts (suc d) 0)
+    turn c = record {
       most = omega arith;
       long = length-set starts (suc d) v ∙ c.long;
       next = omega (arith, c.next, sum_next counts d);
@@ -183,16 +144,55 @@ starts_turn counts starts d place v l e c = rw add-one (turn (rw add-one at e))
       where
         go : (k : ℕ) → k < suc d → Dec (k ≡ d) → get_or (set starts (suc d) v) (suc k) 0 ≡ start_of counts (suc k)
         go k q (yes z) =
-            ap (λ j. get_or (set starts (suc d) v) (suc j) 0) z ∙ get_or-set_same starts (suc d) v 0 (omega (arith, c.long)) ∙ e'
+            ap (λ j. get_or (set starts (suc d) v) (suc j) 0) z ∙ get_or-set_same starts (suc d) v 0 (omega (arith, c.long)) ∙ e
             ∙ ap (λ p. first_for p (get_or counts (suc d) 0)) c.next ∙ ap (λ j. start_of counts (suc j)) (sym z)
         go k q (no n) = get_or-set_other starts (suc d) (suc k) v 0 (λ x. n (omega arith)) ∙ c.heads k (omega arith)
 
 pub starts_all :
-    (counts starts : List ℕ) (d place v : ℕ) → 11 ≤ d → v ≡ first_for place (get_or counts 0 0) → Starts counts starts d place
+    (counts starts : List ℕ) (n place v : ℕ) → 12 ≤ n → v ≡ first_for place (get_or counts 0 0) → Starts counts starts (n - 1) place
     → (k : ℕ) → k < 12 → get_or (set starts 0 v) k 0 ≡ start_of counts k
-starts_all counts starts d place v l e c zero q =
+starts_all counts starts n place v l e c zero q =
     get_or-set_same starts 0 v 0 (omega (arith, c.long)) ∙ e ∙ ap (λ p. first_for p (get_or counts 0 0)) (c.next ∙ ap (λ j. suc (sum_to counts j)) all)
   where
-    all : d ≡ 11
+    all : n - 1 ≡ 11
     all = omega (arith, c.most)
-starts_all counts starts d place v l e c (suc k) q = get_or-set_other starts 0 (suc k) v 0 (λ x. omega arith) ∙ c.heads k (omega arith)
+starts_all counts starts n place v l e c (suc k) q = get_or-set_other starts 0 (suc k) v 0 (λ x. omega arith) ∙ c.heads k (omega arith)
+
+-- ---- chains, each a head and a count
+
+abbrev pub none : Chain
+none = record { head = 0; count = 0 }
+
+module _ (l : List Chain) (k : ℕ) where
+  pub head_at : (get_or l k none).head ≡ get_or (heads_of l) k 0
+  head_at = sym (get_or-map (λ (c : Chain). c.head) l k none)
+
+  pub count_at : (get_or l k none).count ≡ get_or (counts_of l) k 0
+  count_at = sym (get_or-map (λ (c : Chain). c.count) l k none)
+
+  heads_set : (x : Chain) → heads_of (set l k x) ≡ set (heads_of l) k x.head
+  heads_set x = map-set (λ (c : Chain). c.head) l k x
+
+  counts_set : (x : Chain) → counts_of (set l k x) ≡ set (counts_of l) k x.count
+  counts_set x = map-set (λ (c : Chain). c.count) l k x
+
+  -- a chain whose head alone is new
+  counts_kept : (a : ℕ) → counts_of (set l k (record { head = a; count = (get_or l k none).count })) ≡ counts_of l
+  counts_kept a = map-set_same (λ (c : Chain). c.count) l k (record { head = a; count = (get_or l k none).count }) none refl
+
+pub read_turn :
+    (h : List ℕ) (l : List Chain) (k a n : ℕ) → k < 12 → a ≡ get_or h (24 + 2 * k) 0 → n ≡ get_or h (25 + 2 * k) 0 → Reads h (heads_of l) (counts_of l) k
+    → Reads h (heads_of (set l k (record { head = a; count = n }))) (counts_of (set l k (record { head = a; count = n }))) (k + 1)
+read_turn h l k a n b ea en c =
+    let x : Chain = record { head = a; count = n } in
+    rw (heads_set l k x, counts_set l k x) (reads_turn h (heads_of l) (counts_of l) k a n b ea en c)
+
+module _ (chains packed : List Chain) (k place v : ℕ) (ev : v ≡ first_for place (get_or chains k none).count) where
+  pub packed_turn :
+      1 ≤ k → k < 12 → (counts_of packed ≡ counts_of chains) × Starts (counts_of chains) (heads_of packed) (k - 1) place
+      → (counts_of (set packed k (record { head = v; count = (get_or packed k none).count })) ≡ counts_of chains)
+      × Starts (counts_of chains) (heads_of (set packed k (record { head = v; count = (get_or packed k none).count }))) (k + 1 - 1) (place + (get_or chains k none).count)
+  packed_turn o l s = (
+    counts_kept packed k v ∙ s.0,
+    rw (heads_set packed k (record { head = v; count = (get_or packed k none).count }), count_at chains k) (starts_turn (counts_of chains) (heads_of packed) k place v o l (rw (count_at chains k) at ev) s.1),
+  )

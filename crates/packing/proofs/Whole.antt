@@ -100,10 +100,6 @@ module _
   abbrev rs : List ℕ
   rs = drop 256 w
 
-  -- as the code lends them on
-  abbrev rest : List ℕ
-  rest = take (length w - 256) (drop 256 w)
-
   abbrev c : ℕ → List Rec
   c = chain_recs h rs
 
@@ -122,19 +118,19 @@ module _
   pub pack_sums : sum_to counts 11 ≤ 65535
   pack_sums = omega (arith, summed 11 (omega arith), all, records)
 
-  pub pack_rows : Rows rest heads counts
-  pack_rows k a b = rw (rest_part w, eh k b, ec k b) (chain_row rs k (count_of h k) (head_of h k) (ok.good.chains k b).links)
+  pub pack_rows : Rows rs heads counts
+  pack_rows k a b = rw (eh k b, ec k b) (chain_row rs k (count_of h k) (head_of h k) (ok.good.chains k b).links)
 
-  same : (k : ℕ) → k < 12 → chains_of rest heads counts k ≡ c k
+  same : (k : ℕ) → k < 12 → chains_of rs heads counts k ≡ c k
   unfolding chains_of
-  same k l = rw (rest_part w, eh k l, ec k l) refl
+  same k l = rw (eh k l, ec k l) refl
 
-  used : used_to (chains_of rest heads counts) 11 ≡ used_in c
-  used = used_same (chains_of rest heads counts) c 11 (λ k l. same (suc k) (omega arith))
+  used : used_to (chains_of rs heads counts) 11 ≡ used_in c
+  used = used_same (chains_of rs heads counts) c 11 (λ k l. same (suc k) (omega arith))
 
   pub pack_long :
       (out : List ℕ) → length out ≡ length w
-      → length (take (length out - 256) (drop 256 out)) ≡ 4 * (used_to (chains_of rest heads counts) 11 + get_or counts 0 0)
+      → length (take (length out - 256) (drop 256 out)) ≡ 4 * (used_to (chains_of rs heads counts) 11 + get_or counts 0 0)
   pack_long out e = rw (rest_part out, length-drop 256 out) (omega (arith, used, all, length-drop 256 w, ok.size.least, ok.size.whole))
 
   starts_are :
@@ -151,19 +147,19 @@ module _
   counts_are (suc k) l = counted (suc k) l
 
   pub pack_whole :
-      (starts out ys : List ℕ) → length out ≡ length w → ((k : ℕ) → k < 12 → get_or starts k 0 ≡ start_of counts k)
-      → take 256 out ≡ table 256 (header_from h starts counts)
-      → ys ≡ packed_records (chains_of rest heads counts) (length (take (length out - 256) (drop 256 out)) / 4)
+      (starts numbers out ys : List ℕ) → numbers ≡ counts → length out ≡ length w → ((k : ℕ) → k < 12 → get_or starts k 0 ≡ start_of counts k)
+      → take 256 out ≡ table 256 (header_from h starts numbers)
+      → ys ≡ packed_records (chains_of rs heads counts) (length (take (length out - 256) (drop 256 out)) / 4)
       → put_mid 256 (length out - 256) out ys ≡ packed_words w
   unfolding packed_words packed_from
-  pack_whole starts out ys e es et er =
+  pack_whole starts numbers out ys en e es et er =
       back_is out ys
       ∙ ap₂ (λ (x y : List ℕ). x ++ y)
-      (et
+      (rw en at et
       ∙ table_same 256 (header_from h starts counts) (packed_word (λ (i : ℕ). get_or w i 0) c (room rs))
       (header_same w starts counts c (room rs) (starts_are starts es) counts_are))
       (er
-      ∙ records_same (chains_of rest heads counts) c (length (take (length out - 256) (drop 256 out)) / 4) (λ k l. same (suc k) (omega arith))
+      ∙ records_same (chains_of rs heads counts) c (length (take (length out - 256) (drop 256 out)) / 4) (λ k l. same (suc k) (omega arith))
       ∙ ap (packed_records c) long)
     where
       long : length (take (length out - 256) (drop 256 out)) / 4 ≡ room rs

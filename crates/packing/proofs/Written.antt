@@ -1,9 +1,7 @@
 -- All records written: chain after chain, then the free ones. Assumes nothing.
 use Prim.Native.Nat.{ℕ, zero, suc, ◌+◌, ◌-◌, ◌*◌, ◌/◌, ◌≤◌, ◌<◌}
-use mathlib.Core.Path.{◌≡◌, refl, sym, ap, ap₂, subst, ◌∙◌}
+use mathlib.Core.Path.{◌≡◌, refl, sym, ap, ap₂, ◌∙◌}
 use mathlib.Core.List.{List, [], ◌∷◌, ◌++◌, append_assoc, append-nil}
-use native.Mathlib.Nat.{not-suc-le-zero}
-use native.Mathlib.Numerals.{sub-one, add-one}
 use native.Mathlib.Omega.{arith}
 use lib.ListN.{length, get_or, take}
 use lib.Seq.{take_all}
@@ -12,8 +10,8 @@ use Rattle.queue_event.specs.Words.{filled, In}
 use Rattle.queue_event.specs.Chain.{Rec, contents}
 use Rattle.layout.specs.Packed.{first_of, chain_words, used_to, used_words, packed_records, zero_recs}
 use Rattle.layout.proofs.PackedChains.{used_next, used_least, words_next, length_contents}
-use Rattle.packing.specs.Copying.{Row, link_of}
-use Rattle.packing.specs.Writing.{chains_of, Rows, Writes, Zeroes}
+use Rattle.packing.specs.Copying.{link_of}
+use Rattle.packing.specs.Writing.{chains_of, Writes, Zeroes}
 use Rattle.packing.proofs.Copied.{take_filled, length_filled}
 
 -- ---- the chains
@@ -27,7 +25,7 @@ unfolding used_to used_words
 chains_start c out = record { most = omega arith; next = refl; len = refl; words = refl }
 
 module _ (rest heads counts out₀ out : List ℕ) (d place : ℕ) (w : Writes (chains_of rest heads counts) out₀ out d place) (l : d < 11) where
-  abbrev pub c : ℕ → List Rec
+  abbrev c : ℕ → List Rec
   c = chains_of rest heads counts
 
   count_is : used_to c (suc d) ≡ used_to c d + get_or counts (suc d) 0
@@ -35,21 +33,15 @@ module _ (rest heads counts out₀ out : List ℕ) (d place : ℕ) (w : Writes (
       used_next c d
       ∙ ap (λ k. used_to c d + k) (ap length (chain_is rest heads counts (suc d)) ∙ length_contents rest (get_or counts (suc d) 0) (get_or heads (suc d) 0))
 
-  pub chains_row : Rows rest heads counts → Row rest (get_or counts (d + 1) 0) (get_or heads (d + 1) 0)
-  chains_row f = f (d + 1) (omega arith) (omega arith)
+  fit_next : 4 * used_to c 11 ≤ length out₀ → 4 * (place + get_or counts (suc d) 0) ≤ length out + 4
+  fit_next f = omega (arith, w.next, w.len, f, count_is, used_least c (suc d) 11 (omega arith))
 
-  pub chains_one : 1 ≤ place
-  chains_one = omega (arith, w.next)
-
-  pub chains_fit : 4 * used_to c 11 ≤ length out₀ → 4 * (place + get_or counts (d + 1) 0) ≤ length out + 4
-  chains_fit f = rw add-one (omega (arith, w.next, w.len, f, count_is, used_least c (suc d) 11 (omega arith)))
-
-  pub chains_turn :
+  turn_next :
       (out' : List ℕ) → length out' ≡ length out
-      → take (4 * (place + get_or counts (d + 1) 0) - 4) out'
-      ≡ take (4 * place - 4) out ++ chain_words place (contents rest (get_or counts (d + 1) 0) (get_or heads (d + 1) 0))
-      → Writes c out₀ out' (d + 1) (place + get_or counts (d + 1) 0)
-  chains_turn out' e t = rw add-one (turn e (rw add-one at t))
+      → take (4 * (place + get_or counts (suc d) 0) - 4) out'
+      ≡ take (4 * place - 4) out ++ chain_words place (contents rest (get_or counts (suc d) 0) (get_or heads (suc d) 0))
+      → Writes c out₀ out' (suc d) (place + get_or counts (suc d) 0)
+  turn_next out' e t = turn e t
     where
       same : 4 * used_to c (suc d) ≡ 4 * (place + get_or counts (suc d) 0) - 4
       same = omega (arith, w.next, count_is)
@@ -76,17 +68,25 @@ module _ (rest heads counts out₀ out : List ℕ) (d place : ℕ) (w : Writes (
           shut : c (suc d) ≡ contents rest (get_or counts (suc d) 0) (get_or heads (suc d) 0)
           shut = chain_is rest heads counts (suc d)
 
-pub chains_end : (c : ℕ → List Rec) (out₀ out : List ℕ) (d place : ℕ) → Writes c out₀ out d place → 11 ≤ d → place ≡ suc (used_to c 11)
-chains_end c out₀ out d place w l = w.next ∙ ap (λ k. suc (used_to c k)) all
-  where
-    all : d ≡ 11
-    all = omega (arith, w.most)
+-- at chain k, where the chains below it are written
+module _ (rest heads counts out₀ out : List ℕ) where
+  pub chains_fit :
+      (k place : ℕ) → Writes (chains_of rest heads counts) out₀ out (k - 1) place → 1 ≤ k → k < 12 → 4 * used_to (chains_of rest heads counts) 11 ≤ length out₀
+      → 4 * (place + get_or counts k 0) ≤ length out + 4
+  chains_fit zero place w o l f = absurd (omega (arith, o))
+  chains_fit (suc d) place w o l f =
+      let before : suc d - 1 ≡ d = omega arith in
+      fit_next rest heads counts out₀ out d place (rw before at w) (omega arith) f
 
-pub chains_words : (c : ℕ → List Rec) (out₀ out : List ℕ) (d place : ℕ) → Writes c out₀ out d place → 11 ≤ d → take (4 * used_to c 11) out ≡ used_words c 11
-chains_words c out₀ out d place w l = subst (λ k. take (4 * used_to c k) out ≡ used_words c k) all w.words
-  where
-    all : d ≡ 11
-    all = omega (arith, w.most)
+  pub chains_turn :
+      (k place : ℕ) (out' : List ℕ) → Writes (chains_of rest heads counts) out₀ out (k - 1) place → 1 ≤ k → k < 12 → length out' ≡ length out
+      → take (4 * (place + get_or counts k 0) - 4) out' ≡ take (4 * place - 4) out ++ chain_words place (contents rest (get_or counts k 0) (get_or heads k 0))
+      → Writes (chains_of rest heads counts) out₀ out' (k + 1 - 1) (place + get_or counts k 0)
+  chains_turn zero place out' w o l e t = absurd (omega (arith, o))
+  chains_turn (suc d) place out' w o l e t =
+      let before : suc d - 1 ≡ d = omega arith in
+      let after : suc d + 1 - 1 ≡ suc d = omega arith in
+      rw after (turn_next rest heads counts out₀ out d place (rw before at w) (omega arith) out' e t)
 
 -- ---- the free records
 
@@ -107,8 +107,8 @@ module _ (goal out₀ : List ℕ) (end : ℕ) (out : List ℕ) (n p : ℕ) where
   pub free_in_lem : 0 < n → Zeroes goal out₀ end out n p → In out p
   free_in_lem l c = record { one = c.one; fits = omega (arith, c.ends, c.fits) }
 
-  pub free_end : (place count : ℕ) → end ≡ place + count → n ≤ 0 → Zeroes goal out₀ end out n p → take (4 * (place + count) - 4) out ≡ goal
-  free_end place count e l c = ap (λ k. take (4 * k - 4) out) (sym e ∙ sym c.ends ∙ all) ∙ done c.whole
+  pub free_end : (place count : ℕ) → Zeroes goal out₀ end out n p → end ≡ place + count → n ≤ 0 → take (4 * (place + count) - 4) out ≡ goal
+  free_end place count c e l = ap (λ k. take (4 * k - 4) out) (sym e ∙ sym c.ends ∙ all) ∙ done c.whole
     where
       all : p + n ≡ p
       all = omega arith
@@ -137,10 +137,12 @@ free_step goal out₀ end out n p c = record {
     long = length_filled out p (link_of (suc n) p) 0 0 0
 
 pub free_turn :
-    (goal out₀ : List ℕ) (end : ℕ) (out out' : List ℕ) (n p next : ℕ) → 0 < n → next ≡ link_of n p → out' ≡ filled out p next 0 0 0
-    → Zeroes goal out₀ end out n p → Zeroes goal out₀ end out' (n - 1) (p + 1)
-free_turn goal out₀ end out out' zero p next l en eo c = absurd (not-suc-le-zero l)
-free_turn goal out₀ end out out' (suc n) p next l en eo c = rw (eo, en, sub-one, add-one) (free_step goal out₀ end out n p c)
+    (goal out₀ : List ℕ) (end : ℕ) (out out' : List ℕ) (count i p next : ℕ) → i < count → next ≡ link_of (count - i) (p + i) → out' ≡ filled out (p + i) next 0 0 0
+    → Zeroes goal out₀ end out (count - i) (p + i) → Zeroes goal out₀ end out' (count - (i + 1)) (p + (i + 1))
+free_turn goal out₀ end out out' count i p next l en eo c =
+    let some : count - i ≡ suc (count - (i + 1)) = omega arith in
+    let after : p + (i + 1) ≡ suc (p + i) = omega arith in
+    rw (eo, en, some, after) (free_step goal out₀ end out (count - (i + 1)) (p + i) (rw some at c))
 
 -- ---- all
 

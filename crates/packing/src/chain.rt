@@ -9,20 +9,17 @@ use queue_event::words;
 
 // The link of the record at place, where so many are left from it on: 0 for the last.
 pub fn link(left: u64, place: u64) -> u64
-    requires fact_1 { place + left < 18446744073709551616 }
-    requires fact_2 { 1 ≤ left }
+    requires fits { place + left < 18446744073709551616 }
+    requires some { 1 ≤ left }
     ensures { result ≡ link_of left place }
 {
-    if left == 1 {
-        return 0;
-    }
-    place + 1
+    if left == 1 { 0 } else { place + 1 }
 }
 
 // Record `at` of rest, written as record `place` of out with this link.
 fn copy_record(rest: &[u64], at: u64, out: &mut [u64], place: u64, next: u64)
-    requires fact_1 { In rest.now at }
-    requires fact_2 { In out.old place }
+    requires from { In rest.now at }
+    requires to { In out.old place }
     ensures { out.new ≡ copied rest.now at out.old place next }
 {
     let moment = words::get(rest, at, 1);
@@ -34,19 +31,15 @@ fn copy_record(rest: &[u64], at: u64, out: &mut [u64], place: u64, next: u64)
 // The count records that are linked from head, written as the records from place on.
 pub fn copy_chain(rest: &[u64], head: u64, count: u64, out: &mut [u64], place: u64)
     requires row { Row rest.now count head }
-    requires le_place_1 { 1 ≤ place }
-    requires le_place_2 { 4 * (place + count) ≤ length out.old + 4 }
+    requires one { 1 ≤ place }
+    requires room { 4 * (place + count) ≤ length out.old + 4 }
     ensures { take (4 * (place + count) - 4) out.new
         ≡ take (4 * place - 4) out.old ++ chain_words place (contents rest.now count head) }
 {
     let mut at = head;
-    let mut to = place;
-    let mut left = count;
-    while left > 0 {
-        let next = link(left, to);
-        copy_record(rest, at, out, to, next);
+    for i in 0..count {
+        let next = link(count - i, place + i);
+        copy_record(rest, at, out, place + i, next);
         at = words::get(rest, at, 0);
-        to += 1;
-        left -= 1;
     }
 }

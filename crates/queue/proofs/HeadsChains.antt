@@ -25,8 +25,11 @@ use Rattle.queue_event.proofs.Laws.{nodes_next}
 use Rattle.layout.proofs.Banks.{chains_at}
 use Rattle.layout.proofs.TwoChains.{queue_built}
 use Rattle.layout.proofs.Walk.{ok_chain, chain_link}
-use Rattle.queue.specs.declared.peek.Found.TheVariants.{Nothing, At}
-use Rattle.queue.specs.Heads.{chain_at, head_from, found_of, side_held, number_of, Stands, Peeked}
+use Rattle.std.specs.Prelude.{Some, None}
+use Rattle.queue.specs.declared.header.Queue.{Queue}
+use Rattle.queue.specs.declared.header.Queue.TheVariants.{Base, Blocking, Bypassable, Internal}
+use Rattle.queue.specs.Queues.{queue_no, queue_of}
+use Rattle.queue.specs.Heads.{head_from, found_of, side_held, number_of, Stands, Peeked}
 
 -- ---- an event as it is read
 
@@ -51,17 +54,21 @@ event_same b x =
 
 -- ---- the number of a chain
 
-pub chain_number : (n : ℕ) (z : Side) → 1 ≤ n → n ≤ 4 → chain_no z (chain_at n) ≡ n + 5 * side_no z
-chain_number zero z a b = absurd (omega arith)
-chain_number (suc zero) client a b = refl
-chain_number (suc zero) server a b = refl
-chain_number (suc (suc zero)) client a b = refl
-chain_number (suc (suc zero)) server a b = refl
-chain_number (suc (suc (suc zero))) client a b = refl
-chain_number (suc (suc (suc zero))) server a b = refl
-chain_number (suc (suc (suc (suc zero)))) client a b = refl
-chain_number (suc (suc (suc (suc zero)))) server a b = refl
-chain_number (suc (suc (suc (suc (suc n))))) z a b = absurd (omega arith)
+pub chain_number : (q : Queue) (z : Side) → chain_no z (queue_of q) ≡ queue_no q + 5 * side_no z
+chain_number Base client = refl
+chain_number Base server = refl
+chain_number Blocking client = refl
+chain_number Blocking server = refl
+chain_number Bypassable client = refl
+chain_number Bypassable server = refl
+chain_number Internal client = refl
+chain_number Internal server = refl
+
+pub queue_range : (q : Queue) → (1 ≤ queue_no q) × (queue_no q ≤ 4)
+queue_range Base = (omega arith, omega arith)
+queue_range Blocking = (omega arith, omega arith)
+queue_range Bypassable = (omega arith, omega arith)
+queue_range Internal = (omega arith, omega arith)
 
 side_small : (b : Bool) → side_no (side_of b) ≤ 1
 side_small true = omega arith
@@ -71,29 +78,32 @@ side_small false = omega arith
 pub head_link : (h rs : List ℕ) (k : ℕ) → Good h rs → k < 12 → 0 < count_of h k → LinkOk rs k (machines_for h k) 0 0 (head_of h k)
 head_link h rs k g l p = chain_link rs k (machines_for h k) (count_of h k) 0 0 (head_of h k) p (ok_chain h rs k (g.chains k l))
 
--- k is the number of the side's chain n
-module _ (h rs : List ℕ) (n : ℕ) (b : Bool) (k : ℕ) (lo : 1 ≤ n) (hi : n ≤ 4) (ek : k ≡ number_of n b) where
-  small : k ≤ 9
-  small = omega (arith, side_small b)
+-- k is the number of the chain of the side's queue q
+module _ (h rs : List ℕ) (q : Queue) (b : Bool) (k : ℕ) (ek : k ≡ number_of q b) where
+  range : (1 ≤ queue_no q) × (queue_no q ≤ 4)
+  range = queue_range q
 
-  place : k % 5 ≡ n
+  small : k ≤ 9
+  small = omega (arith, side_small b, range.1)
+
+  place : k % 5 ≡ queue_no q
   place = go (side_no (side_of b)) (side_small b) ek
     where
-      go : (s : ℕ) → s ≤ 1 → k ≡ n + 5 * s → k % 5 ≡ n
-      go s l e = omega arith
+      go : (s : ℕ) → s ≤ 1 → k ≡ queue_no q + 5 * s → k % 5 ≡ queue_no q
+      go s l e = omega (arith, range.0, range.1)
 
-  queue_is : queue (side_held h rs b).queues (chain_at n) ≡ map (held_event (side_of b)) (nodes rs (count_of h k) (head_of h k))
+  queue_is : queue (side_held h rs b).queues (queue_of q) ≡ map (held_event (side_of b)) (nodes rs (count_of h k) (head_of h k))
   queue_is =
-      queue_built h rs (side_of b) (chain_at n)
-      ∙ ap (λ i. map (held_event (side_of b)) (chains h rs i)) (chain_number n (side_of b) lo hi ∙ sym ek)
+      queue_built h rs (side_of b) (queue_of q)
+      ∙ ap (λ i. map (held_event (side_of b)) (chains h rs i)) (chain_number q (side_of b) ∙ sym ek)
       ∙ ap (map (held_event (side_of b))) (chains_at h rs k (omega (arith, small)))
 
   -- an empty chain
-  pub none_there : (m plus : ℕ) → m ≡ count_of h k → m ≡ 0 → Peeked h rs b Nothing (head_as (chain_at n) plus (queue (side_held h rs b).queues (chain_at n)))
+  pub none_there : (m plus : ℕ) → m ≡ count_of h k → m ≡ 0 → Peeked h rs b None (head_as (queue_of q) plus (queue (side_held h rs b).queues (queue_of q)))
   unfolding found_of Stands head_as nodes
   none_there m plus em e =
       record {
-        is = sym (ap (head_as (chain_at n) plus) (queue_is ∙ ap (λ i. map (held_event (side_of b)) (nodes rs i (head_of h k))) (sym em ∙ e)));
+        is = sym (ap (head_as (queue_of q) plus) (queue_is ∙ ap (λ i. map (held_event (side_of b)) (nodes rs i (head_of h k))) (sym em ∙ e)));
         stands = tt;
       }
 
@@ -116,7 +126,7 @@ module _ (h rs : List ℕ) (n : ℕ) (b : Bool) (k : ℕ) (lo : 1 ≤ n) (hi : n
     -- its event's moment
     pub head_moment : (p : ℕ) (e : SimEvent) → p ≡ head_of h k → e ≡ read_event b (rec_at rs p) → e.moment.0 ≤ moment_limit
     unfolding rec_at
-    head_moment p e ep ee = rw (ee, ep) (link.holds.event (omega (arith, place)) (omega (arith, small))).moments
+    head_moment p e ep ee = rw (ee, ep) (link.holds.event (omega (arith, place, range.0)) (omega (arith, small))).moments
 
     -- the sum fits a word
     pub head_plus : (p : ℕ) (e : SimEvent) (plus : ℕ) → p ≡ head_of h k → e ≡ read_event b (rec_at rs p) → plus ≤ moment_limit → e.moment.0 + plus < 2 ^ 64
@@ -124,20 +134,18 @@ module _ (h rs : List ℕ) (n : ℕ) (b : Bool) (k : ℕ) (lo : 1 ≤ n) (hi : n
 
     head_kind : (p : ℕ) (e : SimEvent) → p ≡ head_of h k → e ≡ read_event b (rec_at rs p) → e.kind.0 ≤ 9
     unfolding rec_at
-    head_kind p e ep ee = rw (ee, ep) (link.holds.shape.event (omega (arith, place)) (omega (arith, small))).kind.kinds
+    head_kind p e ep ee = rw (ee, ep) (link.holds.shape.event (omega (arith, place, range.0)) (omega (arith, small))).kind.kinds
 
     -- the head, with the length added to its moment
     pub first_there :
         (p : ℕ) (e : SimEvent) (t : Moment) (plus : ℕ) → p ≡ head_of h k → e ≡ read_event b (rec_at rs p) → t.0 ≡ e.moment.0 + plus → plus ≤ moment_limit
-        → Peeked h rs b (At (record { chain = n; place = p; event = e; moment = t })) (head_as (chain_at n) plus (queue (side_held h rs b).queues (chain_at n)))
+        → Peeked h rs b (Some (record { queue = q; place = p; event = e; moment = t })) (head_as (queue_of q) plus (queue (side_held h rs b).queues (queue_of q)))
     unfolding found_of head_from Stands head_as rec_at
     first_there p e t plus ep ee et lp =
         record {
-          is = same ∙ sym (ap (head_as (chain_at n) plus) (queue_is ∙ ap (map (held_event (side_of b))) (nodes_next rs (count_of h k) (head_of h k) more)));
+          is = same ∙ sym (ap (head_as (queue_of q) plus) (queue_is ∙ ap (map (held_event (side_of b))) (nodes_next rs (count_of h k) (head_of h k) more)));
           stands =
               record {
-                low = lo;
-                high = hi;
                 some = subst (λ i. 0 < count_of h i) ek more;
                 first = ep ∙ ap (head_of h) ek;
                 within = head_within p ep;
@@ -153,6 +161,6 @@ module _ (h rs : List ℕ) (n : ℕ) (b : Bool) (k : ℕ) (lo : 1 ≤ n) (hi : n
         told = ap event_value ee ∙ event_same b (rec_at rs p) ∙ ap (λ i. event_from (side_of b) (rec_at rs i)) ep
 
         same :
-            found_of (At (record { chain = n; place = p; event = e; moment = t }))
-            ≡ some (record { chain = chain_at n; place = head_of h k; event = event_from (side_of b) (rec_at rs (head_of h k)); moment = (event_from (side_of b) (rec_at rs (head_of h k))).moment + plus })
-        same = λ d. some (record { chain = chain_at n; place = ep d; event = told d; moment = (et ∙ ap (λ (x : Event). x.moment + plus) told) d })
+            found_of (Some (record { queue = q; place = p; event = e; moment = t }))
+            ≡ some (record { chain = queue_of q; place = head_of h k; event = event_from (side_of b) (rec_at rs (head_of h k)); moment = (event_from (side_of b) (rec_at rs (head_of h k))).moment + plus })
+        same = λ d. some (record { chain = queue_of q; place = ep d; event = told d; moment = (et ∙ ap (λ (x : Event). x.moment + plus) told) d })

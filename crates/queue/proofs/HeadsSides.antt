@@ -1,19 +1,20 @@
 -- The heads of a side, from the heads of its chains. Assumes nothing.
 use Prim.Native.Nat.{ℕ, ◌+◌, ◌≤◌}
-use mathlib.Core.Path.{◌≡◌, refl, sym, ap, ◌∙◌}
+use mathlib.Core.Path.{◌≡◌, refl}
 use mathlib.Core.Bool.{Bool, true, false}
 use mathlib.Core.List.{List}
+use Rattle.std.specs.Prelude.{Option}
 use native.Mathlib.Omega.{arith}
 use lib.ListN.{get_or}
 use Rattle.rules.specs.Basics.{Side, client, server}
-use Rattle.rules.specs.State.{base, side}
+use Rattle.rules.specs.State.{side}
 use Rattle.rules.specs.Limits.{moment_limit}
-use Rattle.rules.specs.ChoiceHeads.{head_as, first_by, by_moment, by_raw_moment, bypassable_head, blocking_head, internal_head, base_head, waiting_head, passing_head}
+use Rattle.rules.specs.ChoiceHeads.{first_by, by_moment, by_raw_moment, bypassable_head, blocking_head, internal_head, base_head, waiting_head, passing_head}
 use Rattle.event.specs.HandedIn.{side_of}
 use Rattle.layout.specs.Accepted.{Good}
 use Rattle.layout.specs.Layout.{bank, state_from}
 use Rattle.layout.specs.Changes.{side_no}
-use Rattle.queue.specs.declared.peek.Found.{Found}
+use Rattle.queue.specs.declared.peek.Head.{Head}
 use Rattle.queue.specs.Heads.{side_held, Known, Peeked, Chosen}
 use Rattle.queue.proofs.HeadsOrder.{peeked_known, peeked_first}
 
@@ -23,9 +24,6 @@ pub sum_held : (h rs : List ℕ) (z : Side) → (side (state_from h rs) z).sum �
 unfolding state_from bank
 sum_held h rs client = refl
 sum_held h rs server = refl
-
-pub base_peeked : (h rs : List ℕ) (b : Bool) (sum : ℕ) (r : Found) → sum ≡ get_or h (10 + side_no (side_of b)) 0 → Peeked h rs b r (head_as base sum (side_held h rs b).queues.base) → Peeked h rs b r (base_head (side_held h rs b))
-base_peeked h rs b sum r e p = record { is = p.is ∙ ap (λ i. head_as base i (side_held h rs b).queues.base) (e ∙ sym (sum_held h rs (side_of b))); stands = p.stands }
 
 pub sum_small : (h rs : List ℕ) (b : Bool) (sum : ℕ) → Good h rs → sum ≡ get_or h (10 + side_no (side_of b)) 0 → sum ≤ moment_limit
 sum_small h rs b sum g e = rw e (go b)
@@ -38,28 +36,28 @@ sum_small h rs b sum g e = rw e (go b)
 
 module _ (h rs : List ℕ) (b : Bool) where
   pub packet_peeked :
-      (f g r : Found) → Peeked h rs b f (bypassable_head (side_held h rs b)) → Peeked h rs b g (blocking_head (side_held h rs b)) → Chosen by_moment f g r
+      (f g r : Option Head) → Peeked h rs b f (bypassable_head (side_held h rs b)) → Peeked h rs b g (blocking_head (side_held h rs b)) → Chosen by_moment f g r
       → Peeked h rs b r (first_by by_moment (bypassable_head (side_held h rs b)) (blocking_head (side_held h rs b)))
   packet_peeked f g r pf pg c = peeked_first h rs b by_moment f g r _ _ pf pg c
 
   -- behind a block, by its flag
   module _ (flag : Bool) where
-    pub waiting_flagged : (r : Found) → flag ≡ true → Peeked h rs b r (blocking_head (side_held h rs b)) → Peeked h rs b r (waiting_head flag (side_held h rs b))
+    pub waiting_flagged : (r : Option Head) → flag ≡ true → Peeked h rs b r (blocking_head (side_held h rs b)) → Peeked h rs b r (waiting_head flag (side_held h rs b))
     unfolding waiting_head
     waiting_flagged r e p = rw e p
 
     pub waiting_plain :
-        (r : Found) → flag ≡ false → Peeked h rs b r (first_by by_moment (bypassable_head (side_held h rs b)) (blocking_head (side_held h rs b)))
+        (r : Option Head) → flag ≡ false → Peeked h rs b r (first_by by_moment (bypassable_head (side_held h rs b)) (blocking_head (side_held h rs b)))
         → Peeked h rs b r (waiting_head flag (side_held h rs b))
     unfolding waiting_head
     waiting_plain r e p = rw e p
 
-    module _ (s i f : Found) (ps : Peeked h rs b s (base_head (side_held h rs b))) (pi : Peeked h rs b i (internal_head (side_held h rs b))) (cf : Chosen by_moment s i f) where
+    module _ (s i f : Option Head) (ps : Peeked h rs b s (base_head (side_held h rs b))) (pi : Peeked h rs b i (internal_head (side_held h rs b))) (cf : Chosen by_moment s i f) where
       pub passing_peeked : Peeked h rs b f (first_by by_moment (base_head (side_held h rs b)) (internal_head (side_held h rs b)))
       passing_peeked = peeked_first h rs b by_moment s i f _ _ ps pi cf
 
       pub passing_flagged :
-          (p r : Found) → flag ≡ true → Peeked h rs b p (bypassable_head (side_held h rs b)) → Chosen by_raw_moment f p r → Peeked h rs b r (passing_head flag (side_held h rs b))
+          (p r : Option Head) → flag ≡ true → Peeked h rs b p (bypassable_head (side_held h rs b)) → Chosen by_raw_moment f p r → Peeked h rs b r (passing_head flag (side_held h rs b))
       unfolding passing_head
       passing_flagged p r e pp cr = rw e (peeked_first h rs b by_raw_moment f p r _ _ passing_peeked pp cr)
 

@@ -1,4 +1,3 @@
-pub mod Sides
 pub mod LentLaws
 pub mod Changing
 pub mod Taking
@@ -6,8 +5,10 @@ pub mod States
 pub mod Queueing
 pub mod Pushing
 pub mod Stamping
+pub mod ViewLaws
 pub mod HeadsChains
 pub mod HeadsOrder
 pub mod HeadsSides
 pub mod HeadsKeys
 pub mod Sizes
+pub mod SlotLaws

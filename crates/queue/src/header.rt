@@ -1,8 +1,8 @@
 // The words of the header that belong to a side, and the numbers of its chains.
-ghost use Rattle.std.specs.Prelude.{◌≡◌, ◌+◌, ◌*◌, ◌<◌, ◌≤◌, length, get_or};
+ghost use Rattle.std.specs.Prelude.{◌≡◌, ◌+◌, ◌*◌, ◌<◌, ◌≤◌};
 ghost use Rattle.event.specs.HandedIn.{side_of};
-ghost use Rattle.layout.specs.Records.{head_of, count_of};
 ghost use Rattle.layout.specs.Changes.{side_no};
+ghost use Rattle.queue.specs.Queues.{queue_no};
 
 // The first of the two words of a side's field: the client's; the server's comes after it.
 pub const ACTION_DELAY: usize = 4;
@@ -17,64 +17,55 @@ pub const BLOCK: usize = 12;
 
 pub const BYPASSABLE: usize = 14;
 
-// The chains of a side, as the client's are numbered; the server's are five above.
-pub const BASE: u64 = 1;
+// The timers of the 32 slots, a word each, and their actions, three words each.
+pub const TIMERS: usize = 64;
 
-pub const BLOCKING: u64 = 2;
+pub const ACTIONS: usize = 96;
 
-pub const BYPASSABLE_QUEUE: u64 = 3;
-
-pub const INTERNAL: u64 = 4;
-
-pub const STAMPS: u64 = 5;
+// The chains of the client's stamps and of the aggregates of both sides.
+const STAMPS: usize = 5;
 
 pub const AGGREGATES: usize = 11;
 
-// The word of a side's field.
-pub fn of_side(head: &[u64], field: usize, client: bool) -> u64
-    requires fact_1 { length head.now ≡ 256 }
-    requires fact_2 { field < 255 }
-    ensures { result ≡ get_or head.now (field + side_no (side_of client)) 0 }
-{
-    if client {
-        return head[field];
-    }
-    head[field + 1]
+// The queues of a side's events, with the numbers of the client's chains; the server's are five above.
+#[derive(Clone, Copy, PartialEq, Eq)]
+pub enum Queue {
+    Base = 1,
+    Blocking = 2,
+    Bypassable = 3,
+    Internal = 4,
 }
 
-// Where that word stands.
+impl Queue {
+    // The number of its chain.
+    pub fn chain(self, client: bool) -> usize
+        ensures { (result ≡ queue_no self + 5 * side_no (side_of client)) × (result ≤ 10) }
+    {
+        let number = self as usize;
+        if client { number } else { number + 5 }
+    }
+}
+
+// Where the word of a side's field stands.
 pub fn place(field: usize, client: bool) -> usize
     requires { field < 255 }
     ensures { (result ≡ field + side_no (side_of client)) × (result ≤ field + 1) }
 {
-    if client {
-        return field;
-    }
-    field + 1
+    if client { field } else { field + 1 }
 }
 
-// The number of a side's chain.
-pub fn chain(of: u64, client: bool) -> usize
-    requires { of ≤ 5 }
-    ensures { (result ≡ of + 5 * side_no (side_of client)) × (result ≤ 10) }
+// The number of the chain of a side's stamps.
+pub fn stamps(client: bool) -> usize
+    ensures { (result ≡ 5 + 5 * side_no (side_of client)) × (result ≤ 10) }
 {
-    if client {
-        return of as usize;
-    }
-    of as usize + 5
+    if client { STAMPS } else { STAMPS + 5 }
 }
 
-// The head of chain k, and how many records it has.
-pub fn first(head: &[u64], k: usize) -> u64
-    requires { (length head.now ≡ 256) × (k < 12) }
-    ensures { result ≡ head_of head.now k }
+// The number of a machine's slot: the client's sixteen, then the server's.
+pub fn slot(client: bool, machine: u64) -> usize
+    requires { machine < 16 }
+    ensures { (result ≡ 16 * side_no (side_of client) + machine) × (result < 32) }
 {
-    head[24 + 2 * k]
-}
-
-pub fn count(head: &[u64], k: usize) -> u64
-    requires { (length head.now ≡ 256) × (k < 12) }
-    ensures { result ≡ count_of head.now k }
-{
-    head[25 + 2 * k]
+    let own = machine as usize;
+    if client { own } else { 16 + own }
 }

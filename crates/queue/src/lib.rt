@@ -4,3 +4,7 @@
 pub mod header;
 pub mod peek;
 pub mod records;
+pub mod view;
+
+pub use header::Queue;
+pub use view::{View, Words};

@@ -1,299 +1,238 @@
 // The heads of the queues, as queue_event.rs and queue.rs find them.
-ghost use Rattle.std.specs.Prelude.{◌≡◌, ◌≤◌, length};
+ghost use Rattle.std.specs.Prelude.{◌≡◌, ◌≤◌, Bool};
 ghost use Rattle.rules.specs.Basics.{before as before_of};
-ghost use Rattle.rules.specs.State.{queue};
-ghost use Rattle.rules.specs.Limits.{moment_limit};
-ghost use Rattle.rules.specs.ChoiceHeads.{head_as, by_moment, by_raw_moment, first_by, bypassable_head, blocking_head, base_head};
-ghost use Rattle.rules.specs.ChoiceHeads.{side_head, queue_head, waiting_head, passing_head};
-ghost use Rattle.layout.specs.Accepted.{Good};
-ghost use Rattle.layout.specs.Layout.{state_from};
-ghost use Rattle.queue.specs.Heads.{chain_at, head_from, side_held, Known, Peeked, PeekedBoth, Chosen};
-ghost use Rattle.queue.specs.Heads.{added_to, chain_head, KeyOf, FirstKey, SecondSooner};
+ghost use Rattle.rules.specs.ChoiceHeads.{Head as RulesHead, by_moment, by_raw_moment, side_head, queue_head, waiting_head, passing_head};
+ghost use Rattle.queue.specs.Heads.{head_from, Known, PeekedIn, PeekedBothIn, Chosen};
+ghost use Rattle.queue.specs.Heads.{added_to, chain_head, key_head, KeyOf, FirstKey, SecondSooner};
+ghost use Rattle.queue.specs.Views.{state_in, side_in};
 
-use crate::header;
+use crate::{Queue, View, header};
 use event::{Kind, SimEvent};
 use moment::{Length, Moment};
 use queue_event::{read, tag, words};
 
-// The head of a chain: which of its side's chains, its record, its event, and its moment as the choice sees it.
+// The head of a queue of a side: its record, its event, and its moment as the choice sees it.
 #[derive(Clone, Copy)]
 pub struct Head {
-    pub chain: u64,
+    pub queue: Queue,
     pub place: u64,
     pub event: SimEvent,
     pub moment: Moment,
 }
 
-#[derive(Clone, Copy)]
-pub enum Found {
-    Nothing,
-    At(Head),
-}
-
-// What the choice compares of a chain's head: its moment as the choice sees it, and its rank. Chain 0 is no head.
-// Keys are three words, so the choice is between these and only the head that it takes is read whole.
+// What the choice compares of a queue's head: its moment as the choice sees it, and its rank.
+// The choice is between these few words, and only the head that it takes is read whole.
 #[derive(Clone, Copy)]
 pub struct Key {
-    pub chain: u64,
+    pub queue: Queue,
     pub moment: Moment,
     pub rank: u64,
 }
 
-// The head of a side's chain, with a length added to its moment.
-fn head_of(head: &[u64], rest: &[u64], chain: u64, client: bool, plus: Length) -> Found
-    requires head_len_1 { length head.now ≡ 256 }
-    requires head_len_2 { Good head.now rest.now }
-    requires le_chain_1 { 1 ≤ chain }
-    requires le_chain_2 { chain ≤ 4 }
-    requires le_chain_3 { plus.0 ≤ moment_limit }
-    ensures { Peeked head.now rest.now client result (head_as (chain_at chain) plus.0 (queue (side_held head.now rest.now client).queues (chain_at chain))) }
+// What is added to the moments of a side's queue: to those of base the side's sum.
+fn added(view: &View, of: Queue, client: bool) -> Length
+    ensures { result.0 ≡ added_to of (side_in view.now.words client) }
 {
-    let k = header::chain(chain, client);
-    let count = header::count(head, k);
-    if count == 0 {
-        return Found::Nothing;
+    match of {
+        Queue::Base => Length(view.words.of_side(header::SUM, client)),
+        _ => Length(0),
     }
-    let place = header::first(head, k);
-    let event = read::event_at(rest, place, client);
+}
+
+// The head of a side's queue.
+fn head_of(view: &View, of: Queue, client: bool) -> Option<Head>
+    ensures { PeekedIn view.now.words client result (chain_head of (side_in view.now.words client)) }
+{
+    let k = of.chain(client);
+    let count = view.words.count(k);
+    if count == 0 {
+        return None;
+    }
+    let place = view.words.first(k);
+    let event = read::event_at(view.words.records, place, client);
+    let plus = added(view, of, client);
     let moment = event.moment.plus(plus);
-    Found::At(Head {
-        chain,
+    Some(Head {
+        queue: of,
         place,
         event,
         moment,
     })
 }
 
-fn plain_head(head: &[u64], rest: &[u64], chain: u64, client: bool) -> Found
-    requires head_len { (length head.now ≡ 256) × (Good head.now rest.now) }
-    requires le_chain { (1 ≤ chain) × (chain ≤ 4) }
-    ensures { Peeked head.now rest.now client result (head_as (chain_at chain) 0 (queue (side_held head.now rest.now client).queues (chain_at chain))) }
-{
-    head_of(head, rest, chain, client, Length(0))
-}
-
-// The base head is later by its side's sum.
-fn base_head(head: &[u64], rest: &[u64], client: bool) -> Found
-    requires fact_1 { length head.now ≡ 256 }
-    requires fact_2 { Good head.now rest.now }
-    ensures { Peeked head.now rest.now client result (base_head (side_held head.now rest.now client)) }
-{
-    let sum = header::of_side(head, header::SUM, client);
-    head_of(head, rest, header::BASE, client, Length(sum))
-}
-
 // The pair (ma, ra) of moment and rank is strictly before (mb, rb).
 fn before(ma: u64, ra: u64, mb: u64, rb: u64) -> bool
     ensures { result ≡ before_of ma ra mb rb }
 {
-    if ma < mb {
-        return true;
-    }
-    if mb < ma {
-        return false;
-    }
-    ra < rb
+    ma < mb || ma == mb && ra < rb
+}
+
+// An order of heads.
+pub trait Order {
+    ghost before: { RulesHead → RulesHead → Bool };
+
+    // Whether the head a is strictly before b.
+    fn earlier(a: Head, b: Head) -> bool
+        requires { (a.event.kind.0 ≤ 9) × (b.event.kind.0 ≤ 9) }
+        ensures { result ≡ before (head_from a) (head_from b) };
 }
 
 // By moment, sums added, then rank.
-fn earlier(a: Head, b: Head) -> bool
-    requires fact_1 { a.event.kind.0 ≤ 9 }
-    requires fact_2 { b.event.kind.0 ≤ 9 }
-    ensures { result ≡ by_moment (head_from a) (head_from b) }
-{
-    let x = a.event.kind.rank();
-    let y = b.event.kind.rank();
-    before(a.moment.0, x, b.moment.0, y)
+pub struct ByMoment;
+
+impl Order for ByMoment {
+    ghost before = { by_moment };
+
+    fn earlier(a: Head, b: Head) -> bool {
+        before(
+            a.moment.0,
+            a.event.kind.rank(),
+            b.moment.0,
+            b.event.kind.rank(),
+        )
+    }
 }
 
 // By the moment as it was queued, then rank.
-fn earlier_raw(a: Head, b: Head) -> bool
-    requires fact_1 { a.event.kind.0 ≤ 9 }
-    requires fact_2 { b.event.kind.0 ≤ 9 }
-    ensures { result ≡ by_raw_moment (head_from a) (head_from b) }
-{
-    let x = a.event.kind.rank();
-    let y = b.event.kind.rank();
-    before(a.event.moment.0, x, b.event.moment.0, y)
+pub struct ByRawMoment;
+
+impl Order for ByRawMoment {
+    ghost before = { by_raw_moment };
+
+    fn earlier(a: Head, b: Head) -> bool {
+        before(
+            a.event.moment.0,
+            a.event.kind.rank(),
+            b.event.moment.0,
+            b.event.kind.rank(),
+        )
+    }
 }
 
-// The first of two heads, unless the second is strictly earlier.
-fn first_of(a: Found, b: Found) -> Found
-    requires fact_1 { Known a }
-    requires fact_2 { Known b }
-    ensures { Chosen by_moment a b result }
+// The first of two heads, unless the second is strictly before it.
+pub fn first_of<O: Order>(a: Option<Head>, b: Option<Head>) -> Option<Head>
+    requires { Known a × Known b }
+    ensures { Chosen O.before a b result }
 {
-    let Found::At(x) = a else {
+    let Some(x) = a else {
         return b;
     };
-    let Found::At(y) = b else {
+    let Some(y) = b else {
         return a;
     };
-    if earlier(y, x) {
-        return b;
-    }
-    a
+    if O::earlier(y, x) { b } else { a }
 }
 
-// The same by the moment as it was queued.
-fn first_raw(a: Found, b: Found) -> Found
-    requires fact_1 { Known a }
-    requires fact_2 { Known b }
-    ensures { Chosen by_raw_moment a b result }
+// The key of a side's queue.
+fn key_of(view: &View, of: Queue, client: bool) -> Option<Key>
+    ensures { KeyOf (side_in view.now.words client) result (chain_head of (side_in view.now.words client)) }
 {
-    let Found::At(x) = a else {
-        return b;
-    };
-    let Found::At(y) = b else {
-        return a;
-    };
-    if earlier_raw(y, x) {
-        return b;
-    }
-    a
-}
-
-// The first packet of both queues.
-fn packet_head(head: &[u64], rest: &[u64], client: bool) -> Found
-    requires fact_1 { length head.now ≡ 256 }
-    requires fact_2 { Good head.now rest.now }
-    ensures { Peeked head.now rest.now client result (first_by by_moment (bypassable_head (side_held head.now rest.now client)) (blocking_head (side_held head.now rest.now client))) }
-{
-    let bypassable = plain_head(head, rest, header::BYPASSABLE_QUEUE, client);
-    let blocking = plain_head(head, rest, header::BLOCKING, client);
-    first_of(bypassable, blocking)
-}
-
-// The key of a side's chain, with a length added to its moment.
-fn key_of(head: &[u64], rest: &[u64], chain: u64, client: bool, plus: Length) -> Key
-    requires head_len_1 { length head.now ≡ 256 }
-    requires head_len_2 { Good head.now rest.now }
-    requires le_chain_1 { 1 ≤ chain }
-    requires le_chain_2 { chain ≤ 4 }
-    requires le_chain_3 { plus.0 ≡ added_to chain (side_held head.now rest.now client) }
-    ensures { KeyOf (side_held head.now rest.now client) result (chain_head chain (side_held head.now rest.now client)) }
-{
-    let k = header::chain(chain, client);
-    let count = header::count(head, k);
+    let k = of.chain(client);
+    let count = view.words.count(k);
     if count == 0 {
-        return Key {
-            chain: 0,
-            moment: Moment(0),
-            rank: 0,
-        };
+        return None;
     }
-    let place = header::first(head, k);
-    let queued = Moment(words::get(rest, place, 1));
+    let place = view.words.first(k);
+    let queued = Moment(words::get(view.words.records, place, 1));
+    let plus = added(view, of, client);
     let moment = queued.plus(plus);
-    let kind = Kind(tag::kind(words::get(rest, place, 3)));
-    Key {
-        chain,
+    let kind = Kind(tag::kind(words::get(view.words.records, place, 3)));
+    Some(Key {
+        queue: of,
         moment,
         rank: kind.rank(),
-    }
+    })
 }
 
 // The first of two keys, unless the second is strictly earlier.
-fn first_key(a: Key, b: Key) -> Key
+fn first_key(a: Option<Key>, b: Option<Key>) -> Option<Key>
     ensures { FirstKey a b result }
 {
-    if a.chain == 0 {
+    let Some(x) = a else {
         return b;
-    }
-    if b.chain == 0 {
+    };
+    let Some(y) = b else {
         return a;
+    };
+    if before(y.moment.0, y.rank, x.moment.0, x.rank) {
+        b
+    } else {
+        a
     }
-    if before(b.moment.0, b.rank, a.moment.0, a.rank) {
-        return b;
-    }
-    a
 }
 
 // `EventQueue::peek`: base, unless the first of the others is strictly earlier.
-fn side_key(head: &[u64], rest: &[u64], client: bool) -> Key
-    requires fact_1 { length head.now ≡ 256 }
-    requires fact_2 { Good head.now rest.now }
-    ensures { KeyOf (side_held head.now rest.now client) result (side_head (side_held head.now rest.now client)) }
+fn side_key(view: &View, client: bool) -> Option<Key>
+    ensures { KeyOf (side_in view.now.words client) result (side_head (side_in view.now.words client)) }
 {
-    let bypassable = key_of(head, rest, header::BYPASSABLE_QUEUE, client, Length(0));
-    let blocking = key_of(head, rest, header::BLOCKING, client, Length(0));
+    let bypassable = key_of(view, Queue::Bypassable, client);
+    let blocking = key_of(view, Queue::Blocking, client);
     let packet = first_key(bypassable, blocking);
-    let internal = key_of(head, rest, header::INTERNAL, client, Length(0));
+    let internal = key_of(view, Queue::Internal, client);
     let others = first_key(packet, internal);
-    let sum = header::of_side(head, header::SUM, client);
-    let base = key_of(head, rest, header::BASE, client, Length(sum));
+    let base = key_of(view, Queue::Base, client);
     first_key(base, others)
 }
 
-// The head of the chain that a key names, read whole.
-fn keyed(head: &[u64], rest: &[u64], chain: u64, client: bool) -> Found
-    requires fact_1 { length head.now ≡ 256 }
-    requires fact_2 { Good head.now rest.now }
-    requires fact_3 { chain ≤ 4 }
-    ensures { Peeked head.now rest.now client result (chain_head chain (side_held head.now rest.now client)) }
+// The head of the queue that a key names, read whole.
+fn keyed(view: &View, key: Option<Key>, client: bool) -> Option<Head>
+    ensures { PeekedIn view.now.words client result (key_head key (side_in view.now.words client)) }
 {
-    if chain == 0 {
-        return Found::Nothing;
-    }
-    if chain == header::BASE {
-        return base_head(head, rest, client);
-    }
-    plain_head(head, rest, chain, client)
+    let Some(k) = key else {
+        return None;
+    };
+    head_of(view, k.queue, client)
 }
 
 // Whether the server's head is strictly before the client's, by the delay from the time and then by rank.
-fn server_sooner(client: Key, server: Key, time: Moment) -> bool
+fn server_sooner(client: Option<Key>, server: Option<Key>, time: Moment) -> bool
     ensures { SecondSooner time.0 client server result }
 {
-    if server.chain == 0 {
+    let Some(s) = server else {
         return false;
-    }
-    if client.chain == 0 {
+    };
+    let Some(c) = client else {
         return true;
-    }
-    let x = client.moment.since(time);
-    let y = server.moment.since(time);
-    before(y.0, server.rank, x.0, client.rank)
+    };
+    let x = c.moment.since(time);
+    let y = s.moment.since(time);
+    before(y.0, s.rank, x.0, c.rank)
 }
 
 // `SimQueue::peek`: the client's on a tie in delay and rank.
-pub fn peek(head: &[u64], rest: &[u64], time: Moment) -> Found
-    requires fact_1 { length head.now ≡ 256 }
-    requires fact_2 { Good head.now rest.now }
-    ensures { PeekedBoth head.now rest.now result (queue_head (state_from head.now rest.now) time.0) }
+pub fn peek(view: &View, time: Moment) -> Option<Head>
+    ensures { PeekedBothIn view.now.words result (queue_head (state_in view.now.words) time.0) }
 {
-    let client = side_key(head, rest, true);
-    let server = side_key(head, rest, false);
+    let client = side_key(view, true);
+    let server = side_key(view, false);
     if server_sooner(client, server, time) {
-        return keyed(head, rest, server.chain, false);
+        return keyed(view, server, false);
     }
-    keyed(head, rest, client.chain, true)
+    keyed(view, client, true)
 }
 
 // `peek_blocking`: the first waiting packet; behind a bypassable block the bypassable queue does not wait.
-pub fn peek_blocking(head: &[u64], rest: &[u64], bypassable: bool, client: bool) -> Found
-    requires fact_1 { length head.now ≡ 256 }
-    requires fact_2 { Good head.now rest.now }
-    ensures { Peeked head.now rest.now client result (waiting_head bypassable (side_held head.now rest.now client)) }
+pub fn peek_blocking(view: &View, bypassable: bool, client: bool) -> Option<Head>
+    ensures { PeekedIn view.now.words client result (waiting_head bypassable (side_in view.now.words client)) }
 {
+    let blocking = head_of(view, Queue::Blocking, client);
     if bypassable {
-        return plain_head(head, rest, header::BLOCKING, client);
+        return blocking;
     }
-    packet_head(head, rest, client)
+    let passing = head_of(view, Queue::Bypassable, client);
+    first_of::<ByMoment>(passing, blocking)
 }
 
 // `peek_non_blocking`: what a block does not hold back; bypassable is weighed against base by the raw moment.
-pub fn peek_non_blocking(head: &[u64], rest: &[u64], bypassable: bool, client: bool) -> Found
-    requires fact_1 { length head.now ≡ 256 }
-    requires fact_2 { Good head.now rest.now }
-    ensures { Peeked head.now rest.now client result (passing_head bypassable (side_held head.now rest.now client)) }
+pub fn peek_non_blocking(view: &View, bypassable: bool, client: bool) -> Option<Head>
+    ensures { PeekedIn view.now.words client result (passing_head bypassable (side_in view.now.words client)) }
 {
-    let base = base_head(head, rest, client);
-    let internal = plain_head(head, rest, header::INTERNAL, client);
-    let found = first_of(base, internal);
-    if bypassable {
-        let packet = plain_head(head, rest, header::BYPASSABLE_QUEUE, client);
-        return first_raw(found, packet);
+    let base = head_of(view, Queue::Base, client);
+    let internal = head_of(view, Queue::Internal, client);
+    let found = first_of::<ByMoment>(base, internal);
+    if !bypassable {
+        return found;
     }
-    found
+    let packet = head_of(view, Queue::Bypassable, client);
+    first_of::<ByRawMoment>(found, packet)
 }

@@ -1,6 +1,5 @@
 -- Laws of the end of a chain and of appending. Assumes nothing.
-use Prim.Native.Nat.{ℕ, zero, suc, ◌-◌, ◌≤◌, ◌<◌}
-use native.Mathlib.Nat.{not-suc-le-zero}
+use Prim.Native.Nat.{ℕ, zero, suc, ◌+◌, ◌-◌, ◌≤◌, ◌<◌}
 use native.Mathlib.Omega.{arith}
 use mathlib.Core.Path.{◌≡◌, refl, sym, ap, ◌∙◌}
 use mathlib.Core.List.{List, [], ◌∷◌, ◌++◌}
@@ -9,23 +8,22 @@ use Rattle.queue_event.specs.Chain.{mark_of, Chain, Node, nodes}
 use Rattle.queue_event.specs.Links.{fresh, link_by, pred_by, Joined}
 use Rattle.queue_event.specs.Tail.{last_of, every, Appended}
 use Rattle.queue_event.specs.Loops.{Walks}
-use Rattle.queue_event.proofs.Laws.{chain_next, nodes_next}
+use Rattle.queue_event.proofs.Laws.{chain_turn, nodes_turn, nodes_end}
 use Rattle.queue_event.proofs.Links.{zero_off, pred_not, pred_on, join_front, join_after}
 
 -- ---- the walk to the last record
 
-pub last_turn : (rs : List ℕ) (goal n h p h' : ℕ) → 0 < n → h' ≡ next_of rs h → Walks rs goal n h p → Walks rs goal (n - 1) h' h
+pub last_turn : (rs : List ℕ) (goal c i h p h' : ℕ) → i < c → h' ≡ next_of rs h → Walks rs goal (c - i) h p → Walks rs goal (c - (i + 1)) h' h
 unfolding last_of
-last_turn rs goal n h p h' l eh z = rw eh (record {
+last_turn rs goal c i h p h' l eh z = rw eh (record {
   mark = z.mark;
-  chain = chain_next rs z.mark n h l z.chain;
-  rest = sym (ap (λ x. last_of x p) (nodes_next rs n h l)) ∙ z.rest;
+  chain = chain_turn rs z.mark c i h l z.chain;
+  rest = sym (ap (λ x. last_of x p) (nodes_turn rs c i h l)) ∙ z.rest;
 })
 
-pub last_end : (rs : List ℕ) (goal n h p : ℕ) → n ≤ 0 → Walks rs goal n h p → p ≡ goal
-unfolding last_of nodes
-last_end rs goal zero h p l z = z.rest
-last_end rs goal (suc n) h p l z = absurd (not-suc-le-zero l)
+pub last_end : (rs : List ℕ) (goal c i h p : ℕ) → c ≤ i → Walks rs goal (c - i) h p → p ≡ goal
+unfolding last_of
+last_end rs goal c i h p l z = sym (ap (λ x. last_of x p) (nodes_end rs c i h l)) ∙ z.rest
 
 -- ---- appending is linking after all records
 

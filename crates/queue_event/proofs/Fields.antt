@@ -8,20 +8,6 @@ use Rattle.queue_event.specs.Tag.{bit, flag, side_bit, is_client, event_tag, agg
 
 -- ---- flags
 
-pub flag_zero : (n : ℕ) → n ≡ 0 → false ≡ flag n
-flag_zero n e = rw e
-
-pub flag_more : (n : ℕ) → (n ≡ 0 → ⊥) → true ≡ flag n
-flag_more zero d = absurd (d refl)
-flag_more (suc n) d = refl
-
-pub client_zero : (n : ℕ) → n ≡ 0 → true ≡ is_client n
-client_zero n e = rw e
-
-pub client_more : (n : ℕ) → (n ≡ 0 → ⊥) → false ≡ is_client n
-client_more zero d = absurd (d refl)
-client_more (suc n) d = refl
-
 pub flag_bit : (b : Bool) → flag (bit b) ≡ b
 flag_bit true = refl
 flag_bit false = refl

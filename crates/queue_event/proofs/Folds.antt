@@ -1,18 +1,17 @@
 -- Laws of looking through a window of time in a chain in order. Assumes nothing.
-use Prim.Native.Nat.{ℕ, zero, suc, ◌-◌, ◌≤◌, ◌<◌, max}
-use native.Mathlib.Nat.{not-suc-le-zero}
+use Prim.Native.Nat.{ℕ, ◌+◌, ◌-◌, ◌≤◌, ◌<◌, max}
 use native.Mathlib.Omega.{arith}
 use mathlib.Core.Path.{◌≡◌, refl, sym, ap, subst, ◌∙◌}
-use mathlib.Core.Bool.{Bool, true, false, ◌||◌, not}
+use mathlib.Core.Bool.{Bool, true, false, ◌||◌}
 use mathlib.Core.List.{List, [], ◌∷◌}
-use lib.Dec.{leb}
-use borrow.Author.Tests.{leb-false, lt-leb, not-false, not-true}
+use lib.Dec.{leb, ltb}
+use borrow.Author.Tests.{leb-false, le-leb, lt-leb}
 use Rattle.queue_event.specs.Words.{next_of, moment_of}
 use Rattle.queue_event.specs.Chain.{pick, Node, rec_at, nodes, recs, contents}
 use Rattle.queue_event.specs.Order.{Sorted, First}
 use Rattle.queue_event.specs.Folds.{later, latest_of, any_within}
 use Rattle.queue_event.specs.Loops.{Latest}
-use Rattle.queue_event.proofs.Laws.{chain_next, nodes_next}
+use Rattle.queue_event.proofs.Laws.{nodes_next, chain_turn, nodes_turn, nodes_end}
 use Rattle.queue_event.proofs.Inserts.{stays_true}
 
 -- ---- what comes after a record past the window is past it too
@@ -48,45 +47,45 @@ pub sorted_next : (rs : List ℕ) (n h : ℕ) → 0 < n → Sorted (nodes rs n h
 unfolding Sorted
 sorted_next rs n h p s = (subst Sorted (nodes_next rs n h p) s).1
 
-latest_step : (rs : List ℕ) (from window n h best : ℕ) → 0 < n → latest_of from window best (contents rs n h) ≡ latest_of from window (later from window best (moment_of rs h)) (contents rs (n - 1) (next_of rs h))
+sorted_turn : (rs : List ℕ) (c i h : ℕ) → i < c → Sorted (nodes rs (c - i) h) → Sorted (nodes rs (c - (i + 1)) (next_of rs h))
+unfolding Sorted
+sorted_turn rs c i h p s = (subst Sorted (nodes_turn rs c i h p) s).1
+
+latest_step : (rs : List ℕ) (from window c i h best : ℕ) → i < c → latest_of from window best (contents rs (c - i) h) ≡ latest_of from window (later from window best (moment_of rs h)) (contents rs (c - (i + 1)) (next_of rs h))
 unfolding latest_of rec_at
-latest_step rs from window n h best p = rw (nodes_next rs n h p)
+latest_step rs from window c i h best p = rw (nodes_turn rs c i h p)
 
-module _ (rs : List ℕ) (from window goal n h best m d : ℕ) (b : Bool) (p : 0 < n) (em : m ≡ moment_of rs h) (ed : d ≡ m - from) (eb : b ≡ leb d window) (s : Latest rs from window goal n h best) where
-  test_is : leb (moment_of rs h - from) window ≡ b
-  test_is = sym (eb ∙ ap (λ x. leb x window) (ed ∙ ap (λ x. x - from) em))
-
-  pub latest_turn : (best' h' : ℕ) → not b ≡ false → best' ≡ max best m → h' ≡ next_of rs h → Latest rs from window goal (n - 1) h' best'
+module _ (rs : List ℕ) (from window goal c i h best m d : ℕ) (p : i < c) (em : m ≡ moment_of rs h) (ed : d ≡ m - from) (s : Latest rs from window goal (c - i) h best) where
+  pub latest_turn : (best' h' : ℕ) → d ≤ window → best' ≡ max best m → h' ≡ next_of rs h → Latest rs from window goal (c - (i + 1)) h' best'
   unfolding later
   latest_turn best' h' t eb eh =
       rw (eb, em, eh) (record {
         mark = s.mark;
-        chain = chain_next rs s.mark n h p s.chain;
-        sorted = sorted_next rs n h p s.sorted;
+        chain = chain_turn rs s.mark c i h p s.chain;
+        sorted = sorted_turn rs c i h p s.sorted;
         rest =
-            ap (λ x. latest_of from window (pick x (max best (moment_of rs h)) best) (contents rs (n - 1) (next_of rs h))) (sym (test_is ∙ not-false b t))
-            ∙ sym (latest_step rs from window n h best p)
+            ap (λ x. latest_of from window (pick x (max best (moment_of rs h)) best) (contents rs (c - (i + 1)) (next_of rs h))) (sym (le-leb _ _ (rw (ed, em) at t)))
+            ∙ sym (latest_step rs from window c i h best p)
             ∙ s.rest;
       })
 
-  pub latest_stop : not b ≡ true → best ≡ goal
+  pub latest_stop : window < d → best ≡ goal
   unfolding rec_at
   latest_stop t =
-      sym (ap (λ l. latest_of from window best (recs l)) (nodes_next rs n h p) ∙ past_latest from window best _ _ (subst Sorted (nodes_next rs n h p) s.sorted) (test_is ∙ not-true b t)) ∙ s.rest
+      sym (ap (λ l. latest_of from window best (recs l)) (nodes_turn rs c i h p) ∙ past_latest from window best _ _ (subst Sorted (nodes_turn rs c i h p) s.sorted) (lt-leb _ _ (rw (ed, em) at t))) ∙ s.rest
 
-pub latest_end : (rs : List ℕ) (from window goal n h best : ℕ) → n ≤ 0 → Latest rs from window goal n h best → best ≡ goal
-unfolding latest_of nodes
-latest_end rs from window goal zero h best p s = s.rest
-latest_end rs from window goal (suc n) h best p s = absurd (not-suc-le-zero p)
+pub latest_end : (rs : List ℕ) (from window goal c i h best : ℕ) → c ≤ i → Latest rs from window goal (c - i) h best → best ≡ goal
+unfolding latest_of
+latest_end rs from window goal c i h best p s = sym (ap (λ l. latest_of from window best (recs l)) (nodes_end rs c i h p)) ∙ s.rest
 
 -- ---- any_within
 
-pub any_none : (rs : List ℕ) (from window n h : ℕ) → n ≡ 0 → false ≡ any_within from window (contents rs n h)
+pub any_none : (rs : List ℕ) (from window n h : ℕ) → n ≤ 0 → ltb 0 n ≡ any_within from window (contents rs n h)
 unfolding any_within nodes
-any_none rs from window n h e = rw e
+any_none rs from window n h l = let e : n ≡ 0 = omega arith in rw e
 
 pub any_first :
-    (rs : List ℕ) (from window n h m d : ℕ) (b : Bool) → (n ≡ 0 → ⊥) → Sorted (nodes rs n h) → m ≡ moment_of rs h → d ≡ m - from → b ≡ leb d window
+    (rs : List ℕ) (from window n h m d : ℕ) (b : Bool) → 0 < n → Sorted (nodes rs n h) → m ≡ moment_of rs h → d ≡ m - from → b ≡ leb d window
     → b ≡ any_within from window (contents rs n h)
 unfolding rec_at
 any_first rs from window n h m d b z s em ed eb =

@@ -1,6 +1,5 @@
 -- Laws of the order within a chain, of the search for a new record's place, and of insertion. Assumes nothing.
-use Prim.Native.Nat.{ℕ, zero, suc, ◌-◌, ◌≤◌, ◌<◌}
-use native.Mathlib.Nat.{not-suc-le-zero}
+use Prim.Native.Nat.{ℕ, ◌+◌, ◌-◌, ◌≤◌, ◌<◌}
 use native.Mathlib.Omega.{arith}
 use mathlib.Core.Path.{◌≡◌, refl, sym, ap, ◌∙◌}
 use mathlib.Core.Bool.{Bool, true, false, not, ◌&&◌, ◌||◌}
@@ -12,7 +11,7 @@ use Rattle.queue_event.specs.Chain.{pick, mark_of, rank_of, Chain, rec_at, Node,
 use Rattle.queue_event.specs.Links.{link_by, pred_by, Joined}
 use Rattle.queue_event.specs.Order.{stays, keeps, insert_sorted, spot, fresh, Inserted}
 use Rattle.queue_event.specs.Loops.{Seeks}
-use Rattle.queue_event.proofs.Laws.{chain_next, nodes_next}
+use Rattle.queue_event.proofs.Laws.{chain_turn, nodes_turn, nodes_end}
 use Rattle.queue_event.proofs.Links.{pred_on, join_front, join_after}
 
 -- ---- the order within a chain
@@ -67,25 +66,24 @@ stays_false a s b t = go (ltb b a) refl (eqb b a) refl (ltb (rank_of t) (rank_of
 
 -- ---- the loop that seeks
 
-module _ (rs : List ℕ) (m t n h p a s : ℕ) (b : Bool) (l : 0 < n) (ea : a ≡ moment_of rs h) (es : s ≡ tag_of rs h) (eb : b ≡ stays a s m t) where
-  spot_step : spot (nodes rs n h) p m t ≡ pick b (spot (nodes rs (n - 1) (next_of rs h)) h m t) p
+module _ (rs : List ℕ) (m t c i h p a s : ℕ) (b : Bool) (l : i < c) (ea : a ≡ moment_of rs h) (es : s ≡ tag_of rs h) (eb : b ≡ stays a s m t) where
+  spot_step : spot (nodes rs (c - i) h) p m t ≡ pick b (spot (nodes rs (c - (i + 1)) (next_of rs h)) h m t) p
   unfolding spot rec_at
-  spot_step = rw (eb, ea, es, nodes_next rs n h l)
+  spot_step = rw (eb, ea, es, nodes_turn rs c i h l)
 
-  pub seek_turn : (goal h' : ℕ) → b ≡ true → h' ≡ next_of rs h → Seeks rs m t goal n h p → Seeks rs m t goal (n - 1) h' h
+  pub seek_turn : (goal h' : ℕ) → b ≡ true → h' ≡ next_of rs h → Seeks rs m t goal (c - i) h p → Seeks rs m t goal (c - (i + 1)) h' h
   seek_turn goal h' e eh z = rw eh (record {
     mark = z.mark;
-    chain = chain_next rs z.mark n h l z.chain;
+    chain = chain_turn rs z.mark c i h l z.chain;
     rest = sym (rw e at spot_step) ∙ z.rest;
   })
 
-  pub seek_stop : (goal : ℕ) → b ≡ false → Seeks rs m t goal n h p → p ≡ goal
+  pub seek_stop : (goal : ℕ) → b ≡ false → Seeks rs m t goal (c - i) h p → p ≡ goal
   seek_stop goal e z = sym (rw e at spot_step) ∙ z.rest
 
-pub seek_end : (rs : List ℕ) (m t goal n h p : ℕ) → n ≤ 0 → Seeks rs m t goal n h p → p ≡ goal
-unfolding spot nodes
-seek_end rs m t goal zero h p l z = z.rest
-seek_end rs m t goal (suc n) h p l z = absurd (not-suc-le-zero l)
+pub seek_end : (rs : List ℕ) (m t goal c i h p : ℕ) → c ≤ i → Seeks rs m t goal (c - i) h p → p ≡ goal
+unfolding spot
+seek_end rs m t goal c i h p l z = sym (ap (λ x. spot x p m t) (nodes_end rs c i h l)) ∙ z.rest
 
 -- ---- insertion is linking by the order within a chain
 

@@ -4,7 +4,7 @@ use native.Mathlib.Nat.{not-suc-le-zero}
 use native.Mathlib.Numerals.{sub-one}
 use native.Mathlib.Omega.{arith}
 use mathlib.Core.Path.{◌≡◌}
-use mathlib.Core.List.{List, ◌∷◌}
+use mathlib.Core.List.{List, [], ◌∷◌}
 use lib.ListN.{length, length-set}
 use lib.Seq.{get_or-set_same, get_or-set_other}
 use Rattle.queue_event.specs.Words.{word, put, next_of, In}
@@ -33,7 +33,7 @@ pub word_put_other : (rs : List ℕ) (r i v q j : ℕ) → 1 ≤ r → 1 ≤ q �
 unfolding word put
 word_put_other rs r i v q j a b li lj d = get_or-set_other rs (4 * r - 4 + i) (4 * q - 4 + j) v 0 (λ e. d (omega arith))
 
--- ---- a count that is not 0, as a loop's `left - 1` has it
+-- ---- a count that is not 0, and what is left of it
 
 pub pred_is : (n : ℕ) → 0 < n → n ≡ suc (n - 1)
 pred_is n h = omega arith
@@ -55,3 +55,16 @@ pub nodes_next : (rs : List ℕ) (n h : ℕ) → 0 < n → nodes rs n h ≡ reco
 unfolding nodes
 nodes_next rs zero h p = absurd (not-suc-le-zero p)
 nodes_next rs (suc n) h p = rw sub-one
+
+-- ---- a walk: i of c records are behind it
+
+pub chain_turn : (rs : List ℕ) (k c i h : ℕ) → i < c → Chain rs k (c - i) h → Chain rs k (c - (i + 1)) (next_of rs h)
+chain_turn rs k c i h l x = let e : c - (i + 1) ≡ c - i - 1 = omega arith in rw e (chain_next rs k (c - i) h (omega arith) x)
+
+pub nodes_turn : (rs : List ℕ) (c i h : ℕ) → i < c → nodes rs (c - i) h ≡ record { at = h; rec = rec_at rs h } ∷ nodes rs (c - (i + 1)) (next_of rs h)
+nodes_turn rs c i h l = let e : c - (i + 1) ≡ c - i - 1 = omega arith in rw e (nodes_next rs (c - i) h (omega arith))
+
+-- and at its end
+pub nodes_end : (rs : List ℕ) (c i h : ℕ) → c ≤ i → nodes rs (c - i) h ≡ []
+unfolding nodes
+nodes_end rs c i h l = let e : c - i ≡ 0 = omega arith in rw e

@@ -4,6 +4,7 @@ ghost use Rattle.queue_event.specs.Words.{In};
 ghost use Rattle.queue_event.specs.Chain.{rec_at};
 ghost use Rattle.queue_event.specs.Values.{read_event, read_aggregate};
 
+use crate::{tag, words};
 use event::{AggregateDelay, Kind, SimEvent};
 use moment::{Length, Moment};
 
@@ -12,14 +13,14 @@ fn event_of(moment: u64, delay: u64, tag: u64, client: bool) -> SimEvent
     ensures { result ≡ read_event client (record { moment = moment; size = delay; tag = tag }) }
 {
     SimEvent {
-        kind: Kind(crate::tag::kind(tag)),
+        kind: Kind(tag::kind(tag)),
         moment: Moment(moment),
         delay: Length(delay),
         client,
-        padding: crate::tag::padding(tag),
-        bypass: crate::tag::bypass(tag),
-        replace: crate::tag::replace(tag),
-        machine: crate::tag::machine(tag),
+        padding: tag::padding(tag),
+        bypass: tag::bypass(tag),
+        replace: tag::replace(tag),
+        machine: tag::machine(tag),
     }
 }
 
@@ -28,9 +29,9 @@ pub fn event_at(records: &[u64], at: u64, client: bool) -> SimEvent
     requires { In records.now at }
     ensures { result ≡ read_event client (rec_at records.now at) }
 {
-    let moment = crate::words::get(records, at, 1);
-    let delay = crate::words::get(records, at, 2);
-    let tag = crate::words::get(records, at, 3);
+    let moment = words::get(records, at, 1);
+    let delay = words::get(records, at, 2);
+    let tag = words::get(records, at, 3);
     event_of(moment, delay, tag, client)
 }
 
@@ -39,12 +40,12 @@ pub fn aggregate_at(records: &[u64], at: u64) -> AggregateDelay
     requires { In records.now at }
     ensures { result ≡ read_aggregate (rec_at records.now at) }
 {
-    let moment = crate::words::get(records, at, 1);
-    let length = crate::words::get(records, at, 2);
-    let tag = crate::words::get(records, at, 3);
+    let moment = words::get(records, at, 1);
+    let length = words::get(records, at, 2);
+    let tag = words::get(records, at, 3);
     AggregateDelay {
         moment: Moment(moment),
         length: Length(length),
-        client: crate::tag::client(tag),
+        client: tag::client(tag),
     }
 }

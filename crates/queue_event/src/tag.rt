@@ -2,7 +2,6 @@
 ghost use Rattle.std.specs.Prelude.{◌≡◌, ◌<◌};
 ghost use Rattle.queue_event.specs.Tag.{mark_of, kind_field, padding_field, bypass_field, replace_field, side_field, machine_field};
 ghost use Rattle.queue_event.specs.Tag.{flag, is_client, event_tag, aggregate_tag, stamp_tag};
-ghost use Rattle.queue_event.specs.Tag.{bit as bit_of};
 
 use event::SimEvent;
 
@@ -20,20 +19,10 @@ pub fn kind(tag: u64) -> u64
     tag / 16 % 16
 }
 
-// The flag of a field that is 0 or 1.
-fn is_set(field: u64) -> bool
-    ensures { result ≡ flag field }
-{
-    if field == 0 {
-        return false;
-    }
-    true
-}
-
 pub fn padding(tag: u64) -> bool
     ensures { result ≡ flag (padding_field tag) }
 {
-    is_set(tag / 256 % 2)
+    tag / 256 % 2 != 0
 }
 
 // The field of the bypass flag: 0 or 1.
@@ -46,13 +35,13 @@ pub fn bypass_field(tag: u64) -> u64
 pub fn bypass(tag: u64) -> bool
     ensures { result ≡ flag (bypass_field tag) }
 {
-    is_set(bypass_field(tag))
+    bypass_field(tag) != 0
 }
 
 pub fn replace(tag: u64) -> bool
     ensures { result ≡ flag (replace_field tag) }
 {
-    is_set(tag / 1024 % 2)
+    tag / 1024 % 2 != 0
 }
 
 // The field of an aggregate's side: 0 is the client.
@@ -66,22 +55,13 @@ pub fn side_field(tag: u64) -> u64
 pub fn client(tag: u64) -> bool
     ensures { result ≡ is_client (side_field tag) }
 {
-    if side_field(tag) == 0 {
-        return true;
-    }
-    false
+    side_field(tag) == 0
 }
 
 pub fn machine(tag: u64) -> u64
     ensures { result ≡ machine_field tag }
 {
     tag / 4096 % 16
-}
-
-fn bit(b: bool) -> u64
-    ensures { (result ≡ bit_of b) × (result < 2) }
-{
-    if b { 1 } else { 0 }
 }
 
 // The tag of an event in the chain of this number.
@@ -91,7 +71,9 @@ pub fn event_tag(chain: u64, event: SimEvent) -> u64
     requires fact_3 { event.machine < 16 }
     ensures { result ≡ event_tag chain event.kind.0 event.padding event.bypass event.replace event.machine }
 {
-    let flags = 256 * bit(event.padding) + 512 * bit(event.bypass) + 1024 * bit(event.replace);
+    let flags = 256 * u64::from(event.padding)
+        + 512 * u64::from(event.bypass)
+        + 1024 * u64::from(event.replace);
     chain + 16 * event.kind.0 + flags + 4096 * event.machine
 }
 

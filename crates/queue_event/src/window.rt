@@ -4,6 +4,7 @@ ghost use Rattle.queue_event.specs.Chain.{Chain, contents, nodes};
 ghost use Rattle.queue_event.specs.Folds.{latest_of, any_within};
 ghost use Rattle.queue_event.specs.Order.{Sorted};
 
+use crate::words;
 use moment::{Length, Moment};
 
 // The latest moment of a chain in order within the window since `from`, at least tail. What comes after a record past the window is past it too.
@@ -21,15 +22,13 @@ pub fn latest(
 {
     let mut best = tail;
     let mut at = head;
-    let mut left = count;
-    while 0 < left {
-        let m = Moment(crate::words::get(records, at, 1));
-        if !m.since(from).within(window) {
+    for _ in 0..count {
+        let m = Moment(words::get(records, at, 1));
+        if m.since(from) > window {
             return best;
         }
-        best = best.later(m);
-        at = crate::words::get(records, at, 0);
-        left = left - 1;
+        best = best.max(m);
+        at = words::get(records, at, 0);
     }
     best
 }
@@ -40,9 +39,5 @@ pub fn any_within(records: &[u64], head: u64, count: u64, from: Moment, window: 
     requires fact_2 { Sorted (nodes records.now count head) }
     ensures { result ≡ any_within from.0 window.0 (contents records.now count head) }
 {
-    if count == 0 {
-        return false;
-    }
-    let m = Moment(crate::words::get(records, head, 1));
-    m.since(from).within(window)
+    0 < count && Moment(words::get(records, head, 1)).since(from) <= window
 }

@@ -1,30 +1,29 @@
 -- The order of delays. Assumes nothing.
 use mathlib.Core.Path.{◌≡◌, refl, sym, ap, ap₂, ◌∙◌}
 use mathlib.Core.Bool.{Bool, true, false}
-use lib.Dec.{leb}
+use Rattle.std.specs.Ordering.{is_le, nat_cmp}
 use Rattle.moment.specs.declared.Length.{Length}
-use Rattle.std.specs.Prelude.{if◌then◌else◌}
+use Rattle.moment.proofs.Order.{le_is}
+use Rattle.std.specs.Prelude.{if◌then◌else◌, Option, Some, None}
 use Rattle.rules.specs.Basics.{after, absent, ◌≤ᵈ◌, earlier, Delay as RulesDelay}
-use Rattle.queue_peek.specs.declared.order.Delay.{Delay}
-use Rattle.queue_peek.specs.declared.order.Delay.TheVariants.{Absent, In}
 use Rattle.queue_peek.specs.Decoded.{delay_of}
 
 before_absent : (x : RulesDelay) → true ≡ (x ≤ᵈ absent)
 before_absent (after n) = refl
 before_absent absent = refl
 
-module _ (a b : Delay) where
-  pub not_later_none : b ≡ Absent → true ≡ (delay_of a ≤ᵈ delay_of b)
+module _ (a b : Option Length) where
+  pub not_later_none : b ≡ None → true ≡ (delay_of a ≤ᵈ delay_of b)
   unfolding delay_of
-  not_later_none e = before_absent (delay_of a) ∙ ap (λ (x : Delay). delay_of a ≤ᵈ delay_of x) (sym e)
+  not_later_none e = before_absent (delay_of a) ∙ ap (λ (x : Option Length). delay_of a ≤ᵈ delay_of x) (sym e)
 
-  pub not_later_never : (y : Length) → b ≡ In y → a ≡ Absent → false ≡ (delay_of a ≤ᵈ delay_of b)
+  pub not_later_never : (y : Length) → b ≡ Some y → a ≡ None → false ≡ (delay_of a ≤ᵈ delay_of b)
   unfolding delay_of
-  not_later_never y eb ea = ap₂ (λ (p q : Delay). delay_of p ≤ᵈ delay_of q) (sym ea) (sym eb)
+  not_later_never y eb ea = ap₂ (λ (p q : Option Length). delay_of p ≤ᵈ delay_of q) (sym ea) (sym eb)
 
-  pub not_later_both : (x y : Length) → b ≡ In y → a ≡ In x → leb x.0 y.0 ≡ (delay_of a ≤ᵈ delay_of b)
+  pub not_later_both : (x y : Length) (r : Bool) → b ≡ Some y → a ≡ Some x → r ≡ is_le (nat_cmp x.0 y.0) → r ≡ (delay_of a ≤ᵈ delay_of b)
   unfolding delay_of
-  not_later_both x y eb ea = ap₂ (λ (p q : Delay). delay_of p ≤ᵈ delay_of q) (sym ea) (sym eb)
+  not_later_both x y r eb ea er = er ∙ le_is x.0 y.0 ∙ ap₂ (λ (p q : Option Length). delay_of p ≤ᵈ delay_of q) (sym ea) (sym eb)
 
   pub earlier_first : (r : Bool) → r ≡ (delay_of a ≤ᵈ delay_of b) → r ≡ true → delay_of a ≡ earlier (delay_of a) (delay_of b)
   earlier_first r e t = ap (λ x. if x then delay_of a else delay_of b) (sym t ∙ e)

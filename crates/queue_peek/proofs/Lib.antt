@@ -1,8 +1,6 @@
-pub mod DelayOrder
-pub mod BeyondMachines
-pub mod SlotDelays
 pub mod BlockLaws
-pub mod QueueLaws
-pub mod OfferedLaws
+pub mod DelayOrder
 pub mod FiveLaws
-pub mod DelayBounds
+pub mod OfferedLaws
+pub mod QueueLaws
+pub mod SlotDelays

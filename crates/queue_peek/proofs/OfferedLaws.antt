@@ -3,55 +3,62 @@ use Prim.Native.Nat.{ℕ, ◌-◌, ◌≤◌}
 use mathlib.Core.Path.{◌≡◌, refl, sym, ap, ap₂, subst, ◌∙◌}
 use mathlib.Core.Bool.{Bool, true, false, not}
 use mathlib.Core.List.{List}
-use mathlib.Core.Option.{Option, none, get_or, map}
+use mathlib.Core.Option.{Option as RulesOption, none, get_or, map}
 use borrow.Author.Tests.{not-true, not-false}
 use Rattle.moment.specs.declared.Moment.{Moment}
 use Rattle.moment.specs.declared.Length.{Length}
-use Rattle.std.specs.Prelude.{if◌then◌else◌}
+use Rattle.std.specs.Prelude.{if◌then◌else◌, Option, Some, None, unwrap_or}
 use Rattle.rules.specs.Basics.{after, ◌≤ᵈ◌}
 use Rattle.rules.specs.Limits.{moment_limit}
 use Rattle.rules.specs.ChoiceHeads.{head_delay, held_back, waiting_first, not_before, waiting_head, passing_head, earliest_of_side, earliest_blocked, first_by, peek_from, peek_queue, queue_head, Head as RulesHead}
 use Rattle.layout.specs.Accepted.{Good}
 use Rattle.layout.specs.Layout.{state_from}
 use Rattle.queue.specs.declared.peek.Head.{Head}
-use Rattle.queue.specs.declared.peek.Found.{Found}
-use Rattle.queue.specs.declared.peek.Found.TheVariants.{Nothing, At}
 use Rattle.event.specs.Values.{event_value}
-use Rattle.queue.specs.Heads.{head_from, found_of, side_held, StandsOn, Peeked, PeekedBoth, Chosen}
-use Rattle.queue.proofs.HeadsOrder.{peeked_first, stands_on, stands_on_at}
-use Rattle.queue_peek.specs.declared.order.Delay.{Delay}
-use Rattle.queue_peek.specs.declared.order.Delay.TheVariants.{In}
+use Rattle.queue.specs.Views.{moment_no}
+use Rattle.queue.specs.Heads.{head_from, found_of, side_held, StandsOn, Known, Peeked, PeekedBoth, Chosen}
+use Rattle.queue.proofs.HeadsOrder.{peeked_first, stands_on, stands_on_at, peeked_known}
 use Rattle.queue_peek.specs.Decoded.{delay_of}
 use Rattle.queue_peek.specs.Promises.{Lifted}
 use Rattle.queue_peek.proofs.BlockLaws.{end_small}
 
 -- ---- a side
 
-lifted_peeked : (h rs : List ℕ) (b : Bool) (end : ℕ) (f r : Found) (o : Option RulesHead) → end ≤ moment_limit → Peeked h rs b f o → Lifted end f r → Peeked h rs b r (map (not_before end) o)
+lifted_peeked : (h rs : List ℕ) (b : Bool) (end : ℕ) (f r : Option Head) (o : RulesOption RulesHead) → end ≤ moment_limit → Peeked h rs b f o → Lifted end f r → Peeked h rs b r (map (not_before end) o)
 lifted_peeked h rs b end f r o l p m = record { is = m.is ∙ ap (map (not_before end)) p.is; stands = m.stands h rs b l p.stands }
 
-pub side_earliest :
-    (h rs : List ℕ) (b : Bool) (t : ℕ) (flag : Bool) (p w m r : Found) (e : Moment) → Good h rs → t ≤ moment_limit
-    → ((x : List ℕ) → flag ≡ (side_held h x b).block_bypassable) → Peeked h rs b p (passing_head flag (side_held h rs b)) → Peeked h rs b w (waiting_head flag (side_held h rs b))
-    → ((x : List ℕ) → e.0 ≡ get_or (side_held h x b).block_end t) → Lifted e.0 w m → Chosen waiting_first p m r
-    → Peeked h rs b r (earliest_of_side t (side_held h rs b))
-unfolding earliest_of_side
-side_earliest h rs b t flag p w m r e g l ef pp pw ee lm c =
-    record {
-      is = got.is ∙ ap₂ (λ y i. first_by waiting_first (passing_head y (side_held h rs b)) (map (not_before i) (waiting_head y (side_held h rs b)))) (ef rs) (ee rs);
-      stands = got.stands;
-    }
-  where
-    small : e.0 ≤ moment_limit
-    small = subst (λ i. i ≤ moment_limit) (sym (ee rs)) (end_small h rs b t g l)
+module _ (h rs : List ℕ) (b : Bool) (g : Good h rs) (t : Moment) (l : t.0 ≤ moment_limit) (o : Option Moment) (eo : moment_no o ≡ (side_held h rs b).block_end) (e : Moment) (ee : e ≡ unwrap_or o t) where
+  end_is : e.0 ≡ get_or (side_held h rs b).block_end t.0
+  end_is = ap (λ (x : Moment). x.0) ee ∙ go o ∙ ap (λ x. get_or x t.0) eo
+    where
+      go : (x : Option Moment) → (unwrap_or x t).0 ≡ get_or (moment_no x) t.0
+      go None = refl
+      go (Some m) = refl
 
-    got : Peeked h rs b r (first_by waiting_first (passing_head flag (side_held h rs b)) (map (not_before e.0) (waiting_head flag (side_held h rs b))))
-    got = peeked_first h rs b waiting_first p m r _ _ pp (lifted_peeked h rs b e.0 w m _ small pw lm) c
+  small : e.0 ≤ moment_limit
+  small = subst (λ i. i ≤ moment_limit) (sym end_is) (end_small h rs b t.0 g l)
+
+  -- what is moved stays known
+  pub lifted_known : (f r : Option Head) (x : RulesOption RulesHead) → Peeked h rs b f x → Lifted e.0 f r → Known r
+  lifted_known f r x p m = peeked_known h rs b r _ (lifted_peeked h rs b e.0 f r x small p m)
+
+  pub side_earliest :
+      (flag : Bool) (p w m r : Option Head) → flag ≡ (side_held h rs b).block_bypassable → Peeked h rs b p (passing_head flag (side_held h rs b)) → Peeked h rs b w (waiting_head flag (side_held h rs b))
+      → Lifted e.0 w m → Chosen waiting_first p m r → Peeked h rs b r (earliest_of_side t.0 (side_held h rs b))
+  unfolding earliest_of_side
+  side_earliest flag p w m r ef pp pw lm c =
+      record {
+        is = got.is ∙ ap₂ (λ y i. first_by waiting_first (passing_head y (side_held h rs b)) (map (not_before i) (waiting_head y (side_held h rs b)))) ef end_is;
+        stands = got.stands;
+      }
+    where
+      got : Peeked h rs b r (first_by waiting_first (passing_head flag (side_held h rs b)) (map (not_before e.0) (waiting_head flag (side_held h rs b))))
+      got = peeked_first h rs b waiting_first p m r _ _ pp (lifted_peeked h rs b e.0 w m _ small pw lm) c
 
 -- ---- both sides
 
-module _ (h rs : List ℕ) (t : ℕ) (c s : Found) (pc : Peeked h rs true c (earliest_of_side t (side_held h rs true))) (ps : Peeked h rs false s (earliest_of_side t (side_held h rs false)))
-    (x y : Delay) (r : Bool) (ex : delay_of x ≡ head_delay t (found_of c)) (ey : delay_of y ≡ head_delay t (found_of s)) (er : r ≡ (delay_of x ≤ᵈ delay_of y)) where
+module _ (h rs : List ℕ) (t : ℕ) (c s : Option Head) (pc : Peeked h rs true c (earliest_of_side t (side_held h rs true))) (ps : Peeked h rs false s (earliest_of_side t (side_held h rs false)))
+    (x y : Option Length) (r : Bool) (ex : delay_of x ≡ head_delay t (found_of c)) (ey : delay_of y ≡ head_delay t (found_of s)) (er : r ≡ (delay_of x ≤ᵈ delay_of y)) where
   smaller : (if r then found_of c else found_of s) ≡ earliest_blocked (state_from h rs) t
   unfolding earliest_blocked
   smaller =
@@ -65,33 +72,33 @@ module _ (h rs : List ℕ) (t : ℕ) (c s : Found) (pc : Peeked h rs true c (ear
 
 -- ---- what the queues offer
 
-module _ (h rs : List ℕ) (t : ℕ) (least : Delay) (f : Found) (p : PeekedBoth h rs f (queue_head (state_from h rs) t)) where
-  pub offered_none : f ≡ Nothing → PeekedBoth h rs Nothing (peek_queue (state_from h rs) t (delay_of least))
+module _ (h rs : List ℕ) (t : ℕ) (least : Option Length) (f : Option Head) (p : PeekedBoth h rs f (queue_head (state_from h rs) t)) where
+  pub offered_none : f ≡ None → PeekedBoth h rs None (peek_queue (state_from h rs) t (delay_of least))
   unfolding found_of StandsOn peek_queue
   offered_none e = record { is = ap (peek_from (state_from h rs) t (delay_of least)) (ap found_of (sym e) ∙ p.is); stands = tt }
 
-  module _ (x : Head) (ex : f ≡ At x) where
+  module _ (x : Head) (ex : f ≡ Some x) where
     pub offered_kind : x.event.kind.0 ≤ 9
     offered_kind = (stands_on_at h rs f x ex p.stands).kind
 
-    module _ (l : Length) (r : Bool) (el : l.0 ≡ x.moment.0 - t) (er : r ≡ (delay_of (In l) ≤ᵈ delay_of least)) where
-      chosen : (k : Bool) → k ≡ held_back (side_held h rs x.event.client) (event_value x.event) → (if r then if k then earliest_blocked (state_from h rs) t else found_of (At x) else none) ≡ peek_queue (state_from h rs) t (delay_of least)
+    module _ (l : Length) (r : Bool) (el : l.0 ≡ x.moment.0 - t) (er : r ≡ (delay_of (Some l) ≤ᵈ delay_of least)) where
+      chosen : (k : Bool) → k ≡ held_back (side_held h rs x.event.client) (event_value x.event) → (if r then if k then earliest_blocked (state_from h rs) t else found_of (Some x) else none) ≡ peek_queue (state_from h rs) t (delay_of least)
       unfolding delay_of found_of head_from peek_queue
       chosen k ek =
-          (λ d. if (er ∙ ap (λ i. after i ≤ᵈ delay_of least) el) d then if ek d then earliest_blocked (state_from h rs) t else found_of (At x) else none)
+          (λ d. if (er ∙ ap (λ i. after i ≤ᵈ delay_of least) el) d then if ek d then earliest_blocked (state_from h rs) t else found_of (Some x) else none)
           ∙ ap (peek_from (state_from h rs) t (delay_of least)) (ap found_of (sym ex) ∙ p.is)
 
       -- later than the other four
-      pub offered_late : not r ≡ true → PeekedBoth h rs Nothing (peek_queue (state_from h rs) t (delay_of least))
+      pub offered_late : not r ≡ true → PeekedBoth h rs None (peek_queue (state_from h rs) t (delay_of least))
       unfolding found_of StandsOn
-      offered_late e = record { is = sym (ap (λ z. if z then if held_back (side_held h rs x.event.client) (event_value x.event) then earliest_blocked (state_from h rs) t else found_of (At x) else none) (not-true r e)) ∙ chosen _ refl; stands = tt }
+      offered_late e = record { is = sym (ap (λ z. if z then if held_back (side_held h rs x.event.client) (event_value x.event) then earliest_blocked (state_from h rs) t else found_of (Some x) else none) (not-true r e)) ∙ chosen _ refl; stands = tt }
 
-      module _ (e : not r ≡ false) (k : Bool) (ek : (y : List ℕ) → k ≡ held_back (side_held h y x.event.client) (event_value x.event)) where
-        in_time : (if k then earliest_blocked (state_from h rs) t else found_of (At x)) ≡ peek_queue (state_from h rs) t (delay_of least)
-        in_time = sym (ap (λ z. if z then if k then earliest_blocked (state_from h rs) t else found_of (At x) else none) (not-false r e)) ∙ chosen k (ek rs)
+      module _ (e : not r ≡ false) (k : Bool) (ek : k ≡ held_back (side_held h rs x.event.client) (event_value x.event)) where
+        in_time : (if k then earliest_blocked (state_from h rs) t else found_of (Some x)) ≡ peek_queue (state_from h rs) t (delay_of least)
+        in_time = sym (ap (λ z. if z then if k then earliest_blocked (state_from h rs) t else found_of (Some x) else none) (not-false r e)) ∙ chosen k ek
 
-        pub offered_behind : (q : Found) → k ≡ true → PeekedBoth h rs q (earliest_blocked (state_from h rs) t) → PeekedBoth h rs q (peek_queue (state_from h rs) t (delay_of least))
-        offered_behind q ke pq = record { is = pq.is ∙ sym (ap (λ z. if z then earliest_blocked (state_from h rs) t else found_of (At x)) ke) ∙ in_time; stands = pq.stands }
+        pub offered_behind : (q : Option Head) → k ≡ true → PeekedBoth h rs q (earliest_blocked (state_from h rs) t) → PeekedBoth h rs q (peek_queue (state_from h rs) t (delay_of least))
+        offered_behind q ke pq = record { is = pq.is ∙ sym (ap (λ z. if z then earliest_blocked (state_from h rs) t else found_of (Some x)) ke) ∙ in_time; stands = pq.stands }
 
-        pub offered_head : k ≡ false → PeekedBoth h rs (At x) (peek_queue (state_from h rs) t (delay_of least))
-        offered_head ke = record { is = sym (ap (λ z. if z then earliest_blocked (state_from h rs) t else found_of (At x)) ke) ∙ in_time; stands = subst (StandsOn h rs) ex p.stands }
+        pub offered_head : k ≡ false → PeekedBoth h rs (Some x) (peek_queue (state_from h rs) t (delay_of least))
+        offered_head ke = record { is = sym (ap (λ z. if z then earliest_blocked (state_from h rs) t else found_of (Some x)) ke) ∙ in_time; stands = subst (StandsOn h rs) ex p.stands }

@@ -1,31 +1,29 @@
 -- The code's delays and block ends as the rules' own. Assumes nothing.
-use Rattle.std.proofs.Math.Option.{Option, none, some}
+use Rattle.std.specs.Prelude.{Option, Some, None}
+use Rattle.std.proofs.Math.Option.{Option as RulesOption, none, some}
+use Rattle.moment.specs.declared.Length.{Length}
 use Rattle.rules.specs.Basics.{after, absent, earlier, Delay as RulesDelay}
 use Rattle.rules.specs.ChoiceDelays.{Block, Delays as RulesDelays}
 use Rattle.event.specs.HandedIn.{side_of}
-use Rattle.queue_peek.specs.declared.order.Delay.{Delay}
-use Rattle.queue_peek.specs.declared.order.Delay.TheVariants.{Absent, In}
 use Rattle.queue_peek.specs.declared.five.Delays.{Delays}
 use Rattle.queue_peek.specs.declared.blocks.BlockEnd.{BlockEnd}
-use Rattle.queue_peek.specs.declared.blocks.Blocked.{Blocked}
-use Rattle.queue_peek.specs.declared.blocks.Blocked.TheVariants.{Nothing, Until}
 
--- `Delay`
-unfoldable pub delay_of : Delay → RulesDelay
-delay_of Absent = absent
-delay_of (In l) = after l.0
+-- a delay; none is absent
+unfoldable pub delay_of : Option Length → RulesDelay
+delay_of None = absent
+delay_of (Some l) = after l.0
 
 -- `Delays`
 unfoldable pub delays_of : Delays → RulesDelays
 delays_of d = record { s = delay_of d.s; i = delay_of d.i; b = delay_of d.b; n = delay_of d.n; q = delay_of d.q }
 
--- `BlockEnd` and `Blocked`
+-- `BlockEnd`, and the next one to end, if there is one
 abbrev pub block_from : BlockEnd → Block
 block_from k = record { side = side_of k.client; end = k.end.0 }
 
-unfoldable pub blocked_of : Blocked → Option Block
-blocked_of Nothing = none
-blocked_of (Until k) = some (block_from k)
+unfoldable pub blocked_of : Option BlockEnd → RulesOption Block
+blocked_of None = none
+blocked_of (Some k) = some (block_from k)
 
 -- ---- the five delays, filled one by one
 

@@ -1,4 +1,4 @@
-// A delay from now, and which of two is the lesser.
+// A delay from now, and which of two is the lesser. An absent one is later than all.
 ghost use Rattle.std.specs.Prelude.{◌≡◌};
 ghost use Rattle.rules.specs.Basics.{◌≤ᵈ◌};
 ghost use Rattle.rules.specs.Basics.{earlier as earlier_of};
@@ -6,32 +6,20 @@ ghost use Rattle.queue_peek.specs.Decoded.{delay_of};
 
 use moment::Length;
 
-// An absent one is later than all.
-#[derive(Clone, Copy)]
-pub enum Delay {
-    Absent,
-    In(Length),
-}
-
 // Whether a is not later than b.
-pub fn not_later(a: Delay, b: Delay) -> bool
+pub fn not_later(a: Option<Length>, b: Option<Length>) -> bool
     ensures { result ≡ (delay_of a ≤ᵈ delay_of b) }
 {
-    let Delay::In(y) = b else {
-        return true;
-    };
-    let Delay::In(x) = a else {
-        return false;
-    };
-    x.0 <= y.0
+    match (a, b) {
+        (_, None) => true,
+        (None, Some(_)) => false,
+        (Some(x), Some(y)) => x <= y,
+    }
 }
 
 // The lesser of two delays.
-pub fn earlier(a: Delay, b: Delay) -> Delay
+pub fn earlier(a: Option<Length>, b: Option<Length>) -> Option<Length>
     ensures { delay_of result ≡ earlier_of (delay_of a) (delay_of b) }
 {
-    if not_later(a, b) {
-        return a;
-    }
-    b
+    if not_later(a, b) { a } else { b }
 }

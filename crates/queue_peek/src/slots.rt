@@ -1,106 +1,101 @@
-// The least delay of a side's timers and of its actions.
-ghost use Rattle.std.specs.Prelude.{◌≡◌, List, ℕ, ◌+◌, ◌*◌, ◌<◌, ◌≤◌, length};
-ghost use Rattle.std.proofs.Math.Option.{some, map};
+// The slots of the machines: the moment that each holds, and the least delay to one.
+ghost use Rattle.std.specs.Prelude.{◌≡◌, ℕ, ◌<◌, ◌≤◌, Bool, true, false, List, length};
+ghost use Rattle.std.proofs.Math.Option.{Option as RulesOption, none};
+ghost use Rattle.rules.specs.Basics.{earlier};
+ghost use Rattle.rules.specs.State.{SideState};
 ghost use Rattle.rules.specs.ChoiceDelays.{slot_delay, least_delay, action_moments};
-ghost use Rattle.event.specs.HandedIn.{side_of};
-ghost use Rattle.layout.specs.Layout.{less_one, action_from};
-ghost use Rattle.layout.specs.Changes.{side_no};
 ghost use Rattle.layout.specs.Header.{Limited, SlotsOk};
-ghost use Rattle.queue.specs.Heads.{side_held};
+ghost use Rattle.queue.specs.declared.view.Words.{Words};
+ghost use Rattle.queue.specs.Views.{moment_no, side_in};
+ghost use Rattle.queue.specs.Slots.{held_at};
+ghost use Rattle.queue.proofs.SlotLaws.{timers_sixteen, timers_beyond, actions_sixteen, actions_beyond};
 ghost use Rattle.queue_peek.specs.Decoded.{delay_of};
-ghost use Rattle.queue_peek.specs.Promises.{moment_of};
 
 use crate::order;
-use crate::order::Delay;
-use moment::Moment;
-use queue::header;
+use moment::{Length, Moment};
+use queue::{Words, header};
 
-// The delay to a moment; one that is past is never taken.
-fn delay_to(moment: Moment, time: Moment) -> Delay
-    ensures { delay_of result ≡ slot_delay time.0 (some moment.0) }
-{
-    if moment.before(time) {
-        return Delay::Absent;
-    }
-    Delay::In(moment.since(time))
+// The slots of one kind.
+pub trait Slots {
+    // The moments that a side's slots hold, by machine.
+    ghost moments: { SideState → List (RulesOption ℕ) };
+
+    // The moment that a machine's slot holds.
+    fn moment(words: &Words, client: bool, machine: u64) -> Option<Moment>
+        requires { machine < 16 }
+        ensures { moment_no result ≡ held_at (moments (side_in words.now client)) machine };
+
+    // A side has sixteen, and those above its machines hold nothing where the slots are in order.
+    ghost sixteen: { (v : Words) (client : Bool) → length (moments (side_in v client)) ≡ 16 };
+
+    ghost beyond: { (v : Words) (client : Bool) (m : ℕ) → SlotsOk v.header.now → (side_in v client).fixed.machines ≤ m → held_at (moments (side_in v client)) m ≡ none };
 }
 
-// The delay of a timer's word: 0 for none, else its moment + 1.
-fn timer_delay(word: u64, time: Moment) -> Delay
-    ensures { delay_of result ≡ slot_delay time.0 (less_one word) }
-{
-    if word == 0 {
-        return Delay::Absent;
+pub struct Timers;
+
+impl Slots for Timers {
+    ghost moments = { λ x. x.timers };
+
+    ghost sixteen = { timers_sixteen };
+
+    ghost beyond = { timers_beyond };
+
+    fn moment(words: &Words, client: bool, machine: u64) -> Option<Moment> {
+        Moment::from_stored(words.header[header::TIMERS + header::slot(client, machine)])
     }
-    delay_to(Moment(word - 1), time)
 }
 
-// The delay of an action, by its first word, 0 for none, and its moment.
-fn action_delay(word: u64, moment: u64, time: Moment) -> Delay
-    ensures { (duration : ℕ) → delay_of result ≡ slot_delay time.0 (map moment_of (action_from word moment duration)) }
-{
-    if word == 0 {
-        return Delay::Absent;
+pub struct Actions;
+
+impl Slots for Actions {
+    ghost moments = { action_moments };
+
+    ghost sixteen = { actions_sixteen };
+
+    ghost beyond = { actions_beyond };
+
+    // Of an action's three words the first is 0 where there is none, and the second is its moment.
+    fn moment(words: &Words, client: bool, machine: u64) -> Option<Moment> {
+        let at = header::ACTIONS + 3 * header::slot(client, machine);
+        if words.header[at] == 0 {
+            return None;
+        }
+        Some(Moment(words.header[at + 1]))
     }
-    delay_to(Moment(moment), time)
 }
 
-// Where the timer of a machine stands.
-fn timer_slot(client: bool, machine: usize) -> usize
-    requires { machine < 16 }
-    ensures { (result ≡ 64 + (16 * side_no (side_of client) + machine)) × (result < 96) }
+// The delay to a moment that a slot holds; one that is past is never taken.
+fn slot_delay(moment: Option<Moment>, time: Moment) -> Option<Length>
+    ensures { delay_of result ≡ slot_delay time.0 (moment_no moment) }
 {
-    if client {
-        return 64 + machine;
-    }
-    80 + machine
+    let Some(m) = moment else {
+        return None;
+    };
+    if m < time { None } else { Some(m.since(time)) }
 }
 
-// Where the action of a machine stands.
-fn action_slot(client: bool, machine: usize) -> usize
-    requires { machine < 16 }
-    ensures { (result ≡ 96 + 3 * (16 * side_no (side_of client) + machine)) × (result < 190) }
+// The least delay of a side's slots: of its machines', since no other slot holds a moment.
+fn least_delay<S: Slots>(words: &Words, client: bool, time: Moment) -> Option<Length>
+    requires limits { Limited words.now.header.now }
+    requires slots { SlotsOk words.now.header.now }
+    ensures { delay_of result ≡ least_delay time.0 (S.moments (side_in words.now client)) }
 {
-    if client {
-        return 96 + 3 * machine;
-    }
-    144 + 3 * machine
-}
-
-// The least delay of a side's timers: of its machines', since no other slot holds one.
-pub fn least_timer(head: &[u64], client: bool, time: Moment) -> Delay
-    requires fact_1 { length head.now ≡ 256 }
-    requires fact_2 { Limited head.now }
-    requires fact_3 { SlotsOk head.now }
-    ensures { (rs : List ℕ) → delay_of result ≡ least_delay time.0 (side_held head.now rs client).timers }
-{
-    let timers = header::of_side(head, header::MACHINES, client) as usize;
-    let mut best = Delay::Absent;
-    let mut m = timers;
-    while 0 < m {
-        m = m - 1;
-        let at = timer_slot(client, m);
-        let d = timer_delay(head[at], time);
-        best = order::earlier(d, best);
+    let machines = words.of_side(header::MACHINES, client);
+    let mut best = None;
+    for m in (0..machines).rev() {
+        let delay = slot_delay(S::moment(words, client, m), time);
+        best = order::earlier(delay, best);
     }
     best
 }
 
-// The least delay of a side's actions: of its machines', since no other slot holds one.
-pub fn least_action(head: &[u64], client: bool, time: Moment) -> Delay
-    requires fact_1 { length head.now ≡ 256 }
-    requires fact_2 { Limited head.now }
-    requires fact_3 { SlotsOk head.now }
-    ensures { (rs : List ℕ) → delay_of result ≡ least_delay time.0 (action_moments (side_held head.now rs client)) }
+// The least delay of the slots of both sides.
+pub fn least_of_both<S: Slots>(words: &Words, time: Moment) -> Option<Length>
+    requires limits { Limited words.now.header.now }
+    requires slots { SlotsOk words.now.header.now }
+    ensures { delay_of result ≡ earlier (least_delay time.0 (S.moments (side_in words.now true))) (least_delay time.0 (S.moments (side_in words.now false))) }
 {
-    let actions = header::of_side(head, header::MACHINES, client) as usize;
-    let mut best = Delay::Absent;
-    let mut m = actions;
-    while 0 < m {
-        m = m - 1;
-        let at = action_slot(client, m);
-        let d = action_delay(head[at], head[at + 1], time);
-        best = order::earlier(d, best);
-    }
-    best
+    let client = least_delay::<S>(words, true, time);
+    let server = least_delay::<S>(words, false, time);
+    order::earlier(client, server)
 }

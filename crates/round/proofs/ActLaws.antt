@@ -2,9 +2,11 @@
 use Prim.Native.Nat.{ℕ, ◌+◌, ◌≤◌, ◌<◌, ◌^◌}
 use mathlib.Core.Path.{◌≡◌, refl, sym, ap, subst}
 use mathlib.Core.List.{List}
-use mathlib.Core.Option.{Option, some}
+use mathlib.Core.Option.{Option as MathOption, some}
 use native.Mathlib.Omega.{arith}
 use lib.ListN.{length, take}
+use Rattle.std.specs.Prelude.{Option, Some, None, Result, Ok}
+use Rattle.moment.specs.declared.Length.{Length}
 use Rattle.rules.specs.State.{Event, in_record}
 use Rattle.rules.specs.Queueing.{push_event}
 use Rattle.rules.specs.ChoiceRound.{Candidate as RulesCandidate, act, take_aggregate, timer_cleared, timer_event, do_action, end_block}
@@ -17,6 +19,8 @@ use Rattle.event.specs.Answers.{chosen_as}
 use Rattle.event.specs.HandedIn.{aggregate_in}
 use Rattle.event.specs.declared.AggregateDelay.{AggregateDelay}
 use Rattle.event.specs.declared.SimEvent.{SimEvent}
+use Rattle.event.specs.declared.answer.Chosen.{Chosen}
+use Rattle.event.specs.declared.answer.Refusal.{Refusal}
 use Rattle.layout.specs.Layout.{state_of}
 use Rattle.layout.specs.Shape.{Shaped}
 use Rattle.queue.specs.Changes.{head_in}
@@ -24,7 +28,6 @@ use Rattle.queue.specs.Heads.{head_from}
 use Rattle.queue.specs.declared.peek.Head.{Head}
 use Rattle.queue_peek.specs.Decoded.{block_from}
 use Rattle.queue_peek.specs.declared.blocks.BlockEnd.{BlockEnd}
-use Rattle.delay.specs.declared.Delayed.{Delayed}
 use Rattle.candidate.specs.Candidates.{candidate_of, Stands, Reckoned, due_slot, planned_slot, action_value}
 use Rattle.candidate.specs.declared.Candidate.{Candidate}
 use Rattle.candidate.specs.declared.Candidate.TheVariants.{Aggregate, Block, Event as AnEvent, Timer, Action as AnAction}
@@ -35,10 +38,7 @@ use Rattle.layout.proofs.Theorems.{holds_accepted}
 use Rattle.round.specs.Changes.{Becomes}
 use Rattle.round.specs.Cases.{AggregateDue, BlockDue, EventDue, EventTaken, TimerDue, ActionDue, Passed}
 use Rattle.round.specs.Rounds.{MayRound, MayAct}
-use Rattle.round.specs.declared.round.Pass.TheVariants.{On, Answered}
-use Rattle.round.specs.declared.round.Pass.{Pass}
 use Rattle.round.proofs.Lifted.{LiftedAs, candidate_lifted}
-use Rattle.event.specs.declared.answer.Choice.TheVariants as choice
 
 pub round_shaped : (w : List ℕ) (now k : ℕ) → MayRound w now k → Shaped w
 round_shaped w now k may = accepted_shaped w may.accepted
@@ -68,7 +68,7 @@ module _ (w : List ℕ) (now k : ℕ) (c : Candidate) (may : MayAct w now k c) w
 as_told : (w : List ℕ) (now k : ℕ) (c x : Candidate) → c ≡ x → MayAct w now k c → MayAct w now k x
 as_told w now k c x e may = subst (MayAct w now k) e may
 
-passed_as : (w left : List ℕ) (now k : ℕ) (c x : Candidate) (r : Pass) → c ≡ x → Passed w left k (act (state_of w) now (candidate_of (take 256 w) x)) r → Passed w left k (act (state_of w) now (candidate_of (take 256 w) c)) r
+passed_as : (w left : List ℕ) (now k : ℕ) (c x : Candidate) (r : Option (Result Chosen Refusal)) → c ≡ x → Passed w left k (act (state_of w) now (candidate_of (take 256 w) x)) r → Passed w left k (act (state_of w) now (candidate_of (take 256 w) c)) r
 passed_as w left now k c x r e p = subst (λ (y : Candidate). Passed w left k (act (state_of w) now (candidate_of (take 256 w) y)) r) (sym e) p
 
 module _ (w : List ℕ) (now k : ℕ) (c : Candidate) (may : MayAct w now k c) where
@@ -84,20 +84,20 @@ module _ (w : List ℕ) (now k : ℕ) (c : Candidate) (may : MayAct w now k c) w
         let m : MayAct w now k (Aggregate a) = as_told w now k c (Aggregate a) e may in
         record { shaped = act_shaped w now k (Aggregate a) m; first = there w now k (Aggregate a) m; sum = (fits_all _ m.sums).0 }
 
-    pub aggregate_acted : (left : List ℕ) → Becomes w left (take_aggregate (state_of w) (in_record (head_in w 11) (aggregate_in a))) → Passed w left k (act (state_of w) now (candidate_of (take 256 w) c)) On
+    pub aggregate_acted : (left : List ℕ) → Becomes w left (take_aggregate (state_of w) (in_record (head_in w 11) (aggregate_in a))) → Passed w left k (act (state_of w) now (candidate_of (take 256 w) c)) None
     unfolding candidate_of
-    aggregate_acted left b = passed_as w left now k c (Aggregate a) On e (record { answer = refl; words = b })
+    aggregate_acted left b = passed_as w left now k c (Aggregate a) None e (record { answer = refl; words = b })
 
   -- ---- 2. a block
 
-  module _ (b : BlockEnd) (by : Delayed) (e : c ≡ Block b by) where
+  module _ (b : BlockEnd) (by : Option Length) (e : c ≡ Block b by) where
     pub block_due : BlockDue w now b by
     unfolding candidate_of Reckoned
     block_due =
         let m : MayAct w now k (Block b by) = as_told w now k c (Block b by) e may in
         record { accepted = may.round.accepted; time = may.round.time; set = there w now k (Block b by) m; sum = (fits_all _ m.sums).0; reckoned = m.reckoned }
 
-    pub block_acted : (left : List ℕ) (r : Pass) → Passed w left k (end_block (state_of w) now (block_from b)) r → Passed w left k (act (state_of w) now (candidate_of (take 256 w) c)) r
+    pub block_acted : (left : List ℕ) (r : Option (Result Chosen Refusal)) → Passed w left k (end_block (state_of w) now (block_from b)) r → Passed w left k (act (state_of w) now (candidate_of (take 256 w) c)) r
     unfolding candidate_of
     block_acted left r p = passed_as w left now k c (Block b by) r e p
 
@@ -110,9 +110,9 @@ module _ (w : List ℕ) (now k : ℕ) (c : Candidate) (may : MayAct w now k c) w
         let m : MayAct w now k (AnEvent h) = as_told w now k c (AnEvent h) e may in
         record { shaped = act_shaped w now k (AnEvent h) m; head = m.stands; lifted = lifted w now k (AnEvent h) m }
 
-    pub event_acted : (left : List ℕ) (r : SimEvent) → EventTaken w left now h r → Passed w left k (act (state_of w) now (candidate_of (take 256 w) c)) (Answered (choice.Event (record { event = r; rounds = k + 1 })))
+    pub event_acted : (left : List ℕ) (r : SimEvent) → EventTaken w left now h r → Passed w left k (act (state_of w) now (candidate_of (take 256 w) c)) (Some (Ok (record { event = Some r; rounds = k + 1 })))
     unfolding candidate_of
-    event_acted left r t = passed_as w left now k c (AnEvent h) _ e (record { answer = ap (λ (x : Option Event). some (chosen_as x (k + 1))) t.event; words = t.words })
+    event_acted left r t = passed_as w left now k c (AnEvent h) _ e (record { answer = ap (λ (x : MathOption Event). some (chosen_as x (k + 1))) t.event; words = t.words })
 
   -- ---- 4. a timer
 
@@ -123,9 +123,9 @@ module _ (w : List ℕ) (now k : ℕ) (c : Candidate) (may : MayAct w now k c) w
         let m : MayAct w now k (Timer d) = as_told w now k c (Timer d) e may in
         record { room = record { shaped = act_shaped w now k (Timer d) m; free = enough_free w now k (Timer d) m }; machine = m.stands }
 
-    pub timer_acted : (left : List ℕ) → Becomes w left (push_event (timer_cleared (state_of w) (due_slot d)) (timer_event (due_slot d) d.moment.0)) → Passed w left k (act (state_of w) now (candidate_of (take 256 w) c)) On
+    pub timer_acted : (left : List ℕ) → Becomes w left (push_event (timer_cleared (state_of w) (due_slot d)) (timer_event (due_slot d) d.moment.0)) → Passed w left k (act (state_of w) now (candidate_of (take 256 w) c)) None
     unfolding candidate_of
-    timer_acted left b = passed_as w left now k c (Timer d) On e (record { answer = refl; words = b })
+    timer_acted left b = passed_as w left now k c (Timer d) None e (record { answer = refl; words = b })
 
   -- ---- 5. an action
 
@@ -136,6 +136,6 @@ module _ (w : List ℕ) (now k : ℕ) (c : Candidate) (may : MayAct w now k c) w
         let m : MayAct w now k (AnAction p) = as_told w now k c (AnAction p) e may in
         record { room = record { shaped = act_shaped w now k (AnAction p) m; free = enough_free w now k (AnAction p) m }; machine = m.stands.0; sums = m.sums }
 
-    pub action_acted : (left : List ℕ) → Becomes w left (do_action (state_of w) (planned_slot p) (action_value p.action)) → Passed w left k (act (state_of w) now (candidate_of (take 256 w) c)) On
+    pub action_acted : (left : List ℕ) → Becomes w left (do_action (state_of w) (planned_slot p) (action_value p.action)) → Passed w left k (act (state_of w) now (candidate_of (take 256 w) c)) None
     unfolding candidate_of
-    action_acted left b = passed_as w left now k c (AnAction p) On e (record { answer = refl; words = b })
+    action_acted left b = passed_as w left now k c (AnAction p) None e (record { answer = refl; words = b })

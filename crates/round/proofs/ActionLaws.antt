@@ -8,6 +8,10 @@ use native.Mathlib.Omega.{arith}
 use lib.Dec.{ltb}
 use lib.ListN.{length}
 use Rattle.std.specs.Prelude.{if◌then◌else◌}
+use Rattle.std.specs.Prelude.{Option, Some, None, unwrap_or}
+use Rattle.std.specs.Ordering.{is_lt, nat_cmp}
+use Rattle.moment.proofs.Order.{lt_is}
+use Rattle.queue.specs.Views.{moment_no}
 use Rattle.rules.specs.Basics.{Side, client, server}
 use Rattle.rules.specs.State.{Action, BlockOutgoing, SideState, State, side, with_side, with_block}
 use Rattle.rules.specs.Queueing.{push_event}
@@ -74,9 +78,16 @@ or_false b c x e f = rw (e, f)
 pub sets_replace : (x : SideState) (a : ScheduledAction) → a.replace ≡ true → true ≡ sets_block x (action_value a)
 sets_replace x a e = or_true a.replace _ e
 
-pub sets_later : (x : SideState) (a : ScheduledAction) (end sum : Moment) (r : Bool) → a.replace ≡ false → end.0 ≡ get_or x.block_end a.moment.0 → sum.0 ≡ a.moment.0 + a.duration.0
-    → r ≡ ltb end.0 sum.0 → r ≡ sets_block x (action_value a)
-sets_later x a end sum r e p q f = or_false a.replace _ r e (f ∙ (λ d. ltb (p d) (q d)))
+pub sets_later : (x : SideState) (a : ScheduledAction) (o : Option Moment) (end sum : Moment) (r : Bool) → a.replace ≡ false → moment_no o ≡ x.block_end → end ≡ unwrap_or o a.moment → sum.0 ≡ a.moment.0 + a.duration.0
+    → r ≡ is_lt (nat_cmp end.0 sum.0) → r ≡ sets_block x (action_value a)
+sets_later x a o end sum r e p ee q f = or_false a.replace _ r e (f ∙ lt_is end.0 sum.0 ∙ (λ d. ltb (end_is d) (q d)))
+  where
+    end_is : end.0 ≡ get_or x.block_end a.moment.0
+    end_is = ap (λ (i : Moment). i.0) ee ∙ go o ∙ ap (λ i. get_or i a.moment.0) p
+      where
+        go : (y : Option Moment) → (unwrap_or y a.moment).0 ≡ get_or (moment_no y) a.moment.0
+        go None = refl
+        go (Some m) = refl
 
 begin_if : (x : SideState) (a : Action) (b : Bool) → sets_block x a ≡ b → acted_side BlockOutgoing x a ≡ (if b then with_block x (some (a.moment + a.duration)) a.bypass else x)
 begin_if x a b e = ap (λ (t : Bool). if t then with_block x (some (a.moment + a.duration)) a.bypass else x) e

@@ -3,7 +3,8 @@ use Prim.Native.Nat.{ℕ, max, ◌+◌, ◌≤◌, ◌<◌, ◌^◌}
 use mathlib.Core.Path.{◌≡◌, refl, sym, ap, subst, ◌∙◌}
 use mathlib.Core.Bool.{Bool, true, false}
 use mathlib.Core.List.{List, [], ◌∷◌}
-use mathlib.Core.Option.{Option, none, some}
+use mathlib.Core.Option.{Option as MathOption, none, some}
+use Rattle.std.specs.Prelude.{Some, None, Ok, Option}
 use native.Mathlib.Omega.{arith}
 use lib.Dec.{eqb}
 use lib.ListN.{length}
@@ -29,7 +30,6 @@ use Rattle.moment.specs.declared.Moment.{Moment}
 use Rattle.layout.specs.Layout.{state_of}
 use Rattle.layout.specs.Shape.{Shaped}
 use Rattle.delay.specs.Tests.{delayed_of}
-use Rattle.delay.specs.declared.Delayed.{Delayed}
 use Rattle.queue.specs.Changes.{Leaves}
 use Rattle.queue.specs.Pushes.{MayPush}
 use Rattle.event.specs.Values.{event_value}
@@ -43,11 +43,9 @@ use Rattle.queue.proofs.Sizes.{free_length}
 use Rattle.network.proofs.AggregateLaws.{adds_free}
 use Rattle.round.specs.Changes.{Becomes, unblocked}
 use Rattle.round.specs.Cases.{Shows, BlockDue, Passed, end_of}
-use Rattle.round.specs.declared.round.Pass.TheVariants.{On, Answered}
 use Rattle.round.proofs.HeaderWords.{becomes_then}
 use Rattle.round.proofs.FreeRecords.{event_may, event_pushed, free_side, leaves_becomes}
 use Rattle.round.proofs.ActionLaws.{side_with}
-use Rattle.event.specs.declared.answer.Choice.TheVariants as choice
 
 -- ---- the event
 
@@ -92,7 +90,7 @@ clear_free s now k =
 
 -- ---- the block is cleared
 
-module _ (w : List ℕ) (now : ℕ) (k : BlockEnd) (by : Delayed) (due : BlockDue w now k by) where
+module _ (w : List ℕ) (now : ℕ) (k : BlockEnd) (by : Option Length) (due : BlockDue w now k by) where
   held : HeldAccepted (state_of w)
   held = holds_accepted w due.accepted
 
@@ -153,15 +151,15 @@ module _ (w : List ℕ) (now : ℕ) (k : BlockEnd) (by : Delayed) (due : BlockDu
           ap (λ (t : Bool). if t then taken (end_event (state_of w) now (block_from k)) (clear_block (state_of w) now (block_from k)) else next (push_event (clear_block (state_of w) now (block_from k)) (end_event (state_of w) now (block_from k))))
           (ap (λ (n : ℕ). eqb n 0) (sym reporting_is) ∙ e)
 
-      pub end_returned : (rounds : ℕ) → d.0 ≡ 0 → Passed w w₁ rounds (end_block (state_of w) now (block_from k)) (Answered (choice.Event (record { event = r; rounds = rounds + 1 })))
+      pub end_returned : (rounds : ℕ) → d.0 ≡ 0 → Passed w w₁ rounds (end_block (state_of w) now (block_from k)) (Some (Ok (record { event = Some r; rounds = rounds + 1 })))
       end_returned rounds e =
-          subst (λ (o : RoundOutcome). Passed w w₁ rounds o (Answered (choice.Event (record { event = r; rounds = rounds + 1 })))) (sym (by_delay_lem true (eq-eqb d.0 0 e)))
-          (record { answer = ap (λ (x : Option Event). some (chosen_as x (rounds + 1))) (event_known r shown.canonical.kind ∙ ap some shown.is); words = c })
+          subst (λ (o : RoundOutcome). Passed w w₁ rounds o (Some (Ok (record { event = Some r; rounds = rounds + 1 })))) (sym (by_delay_lem true (eq-eqb d.0 0 e)))
+          (record { answer = ap (λ (x : MathOption Event). some (chosen_as x (rounds + 1))) (event_known r shown.canonical.kind ∙ ap some shown.is); words = c })
 
       pub end_may : MayPush w₁ r
       end_may = event_may w w₁ _ _ r c shown (omega (arith, three_free, clear_free (state_of w) now (block_from k)))
 
-      pub end_queued : (rounds : ℕ) → (d.0 ≡ 0 → ⊥) → (w₂ : List ℕ) → Leaves w₁ w₂ (push_event (state_of w₁) (event_value r)) → Passed w w₂ rounds (end_block (state_of w) now (block_from k)) On
+      pub end_queued : (rounds : ℕ) → (d.0 ≡ 0 → ⊥) → (w₂ : List ℕ) → Leaves w₁ w₂ (push_event (state_of w₁) (event_value r)) → Passed w w₂ rounds (end_block (state_of w) now (block_from k)) None
       end_queued rounds n w₂ l =
-          subst (λ (o : RoundOutcome). Passed w w₂ rounds o On) (sym (by_delay_lem false (ne_eqb d.0 0 n)))
+          subst (λ (o : RoundOutcome). Passed w w₂ rounds o None) (sym (by_delay_lem false (ne_eqb d.0 0 n)))
           (record { answer = refl; words = event_pushed w w₁ _ _ r c shown w₂ l })

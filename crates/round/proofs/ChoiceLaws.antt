@@ -2,6 +2,7 @@
 use Prim.Native.Nat.{ℕ, suc, ◌+◌, ◌<◌}
 use mathlib.Core.Path.{◌≡◌, refl, sym, ap, subst, ◌∙◌}
 use mathlib.Core.List.{List}
+use Rattle.std.specs.Prelude.{Option, Some, None, Result}
 use mathlib.Core.Option.{none, some, none-ne-some, some-injective}
 use native.Mathlib.Omega.{arith}
 use Rattle.rules.specs.State.{State, rounds_left, total}
@@ -12,12 +13,11 @@ use Rattle.laws.proofs.Falls.{enough, round_kept}
 use Rattle.laws.specs.Runs.{Makes}
 use Rattle.laws.proofs.Runs.{round_makes}
 use Rattle.event.specs.Answers.{choice_of}
-use Rattle.event.specs.declared.answer.Choice.{Choice}
+use Rattle.event.specs.declared.answer.Chosen.{Chosen}
+use Rattle.event.specs.declared.answer.Refusal.{Refusal}
 use Rattle.layout.specs.Layout.{state_of}
 use Rattle.round.specs.Cases.{said, pass_of}
 use Rattle.round.specs.Rounds.{MayChoose, Rounded, Choosing, Chose}
-use Rattle.round.specs.declared.round.Pass.{Pass}
-use Rattle.round.specs.declared.round.Pass.TheVariants.{On, Answered}
 use Rattle.round.proofs.HeaderWords.{then_spare}
 
 -- ---- the beginning
@@ -54,9 +54,9 @@ ends k on (passed t) a e = ap (λ (x : Answer). record { answer = x; state = t }
 
 -- ---- a turn
 
-module _ (w₀ w left : List ℕ) (now k : ℕ) (p : Pass) (inv : Choosing w₀ w now k) (r : Rounded w left now k p) where
+module _ (w₀ w left : List ℕ) (now k : ℕ) (p : Option (Result Chosen Refusal)) (inv : Choosing w₀ w now k) (r : Rounded w left now k p) where
   -- the answer of the choice
-  pub choice_ends : (c : Choice) → p ≡ Answered c → Chose w₀ left now c
+  pub choice_ends : (c : Result Chosen Refusal) → p ≡ Some c → Chose w₀ left now c
   choice_ends c e =
       record {
         answer = sym (ap (λ (x : Called). x.answer) called);
@@ -71,7 +71,7 @@ module _ (w₀ w left : List ℕ) (now k : ℕ) (p : Pass) (inv : Choosing w₀ 
           sym (inv.rest (suc (rounds_left (state_of w))) (omega arith)) ∙ one_round (rounds_left (state_of w)) now k (state_of w) (round (state_of w) now) refl
           ∙ ends k _ (round (state_of w) now) (choice_of c) (sym (ap pass_of e) ∙ r.came.answer)
 
-  module _ (e : p ≡ On) where
+  module _ (e : p ≡ None) where
     on : round (state_of w) now ≡ next (state_after (round (state_of w) now))
     on = goes_on k (round (state_of w) now) (sym (ap pass_of e) ∙ r.came.answer)
 

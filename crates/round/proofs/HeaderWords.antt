@@ -6,6 +6,7 @@ use mathlib.Core.List.{List}
 use mathlib.Core.Option.{some}
 use native.Mathlib.Omega.{arith}
 use native.Mathlib.Numerals.{add-one}
+use mir.Val.{bool_byte}
 use lib.ListN.{get_or, set, take, length-set}
 use lib.Seq.{get_or-take, get_or-set_other}
 use Rattle.rules.specs.Basics.{Side, client, server}
@@ -73,13 +74,11 @@ then_spare a b c p q i s = q i s ∙ p i s
 
 -- ---- flags and slots
 
-pub bit_true : (b : Bool) → b ≡ true → 1 ≡ bit_of b
+-- a flag as a number
+bit_byte : (b : Bool) → bool_byte b ≡ bit_of b
 unfolding bit_of
-bit_true b e = rw e
-
-pub bit_false : (b : Bool) → b ≡ false → 0 ≡ bit_of b
-unfolding bit_of
-bit_false b e = rw e
+bit_byte true = refl
+bit_byte false = refl
 
 bit_small : (b : Bool) (v : ℕ) → v ≡ bit_of b → v ≤ 1
 unfolding bit_of
@@ -126,13 +125,16 @@ module _ (w : List ℕ) (s : Shaped w) (z : Side) where
       (low_becomes w (12 + side_no z) 0 _ (omega (arith, side_low z)) (block_shaped w s 0 z) (block_stored w s 0 z))
 
   -- a block's end, then its flag
-  pub block_set : (at flagged end u v : ℕ) (b : Bool) → at ≡ 12 + side_no z → flagged ≡ 14 + side_no z → u ≡ end + 1 → v ≡ bit_of b → Becomes w (set (set w at u) flagged v) (blocked_to (state_of w) z end b)
-  block_set at flagged end u v b e f eu g =
+  pub block_set : (at flagged end u v : ℕ) (b : Bool) → at ≡ 12 + side_no z → flagged ≡ 14 + side_no z → u ≡ end + 1 → v ≡ bool_byte b → Becomes w (set (set w at u) flagged v) (blocked_to (state_of w) z end b)
+  block_set at flagged end u v b e f eu gb =
       subst (λ (i : ℕ). Becomes w (set (set w at i) flagged v) (blocked_to (state_of w) z end b)) (sym eu)
       (subst (λ (i : ℕ). Becomes w (set (set w i (end + 1)) flagged v) (blocked_to (state_of w) z end b)) (sym e)
       (subst (λ (i : ℕ). Becomes w (set (set w (12 + side_no z) (end + 1)) i v) (blocked_to (state_of w) z end b)) (sym f)
       (becomes_then w w₁ (set w₁ (14 + side_no z) v) _ _ one (low_becomes w₁ (14 + side_no z) v _ (omega (arith, side_low z)) (flag_shaped w₁ one.shaped v z small) two))))
     where
+      g : v ≡ bit_of b
+      g = gb ∙ bit_byte b
+
       w₁ : List ℕ
       w₁ = set w (12 + side_no z) (end + 1)
 

@@ -27,17 +27,15 @@ use Rattle.layout.specs.Shape.{Shaped}
 use Rattle.candidate.specs.Candidates.{candidate_of, next_of, NextStands, NextReckoned, Stands, Reckoned}
 use Rattle.candidate.specs.Promises.{TakenUp}
 use Rattle.candidate.specs.declared.Candidate.{Candidate}
-use Rattle.candidate.specs.declared.Next.{Next}
-use Rattle.candidate.specs.declared.Next.TheVariants.{Take, Nothing}
 use Rattle.layout.proofs.Shapes.{shaped_accepted}
 use Rattle.layout.proofs.Theorems.{holds_accepted}
 use Rattle.round.specs.Changes.{Becomes}
 use Rattle.round.specs.Cases.{Passed, Marked, said}
 use Rattle.round.specs.Rounds.{MayRound, MayAct, Rounded}
-use Rattle.round.specs.declared.round.Pass.{Pass}
-use Rattle.round.specs.declared.round.Pass.TheVariants.{Answered}
+use Rattle.std.specs.Prelude.{Option, Some, None, Result, Ok}
+use Rattle.event.specs.declared.answer.Chosen.{Chosen}
+use Rattle.event.specs.declared.answer.Refusal.{Refusal}
 use Rattle.round.proofs.HeaderWords.{becomes_then}
-use Rattle.event.specs.declared.answer.Choice.TheVariants as choice
 
 -- ---- a round of the rules leaves an accepted state
 
@@ -127,13 +125,13 @@ said_closed k (passed t) = refl
 
 module _ (w : List ℕ) (now k : ℕ) (may : MayRound w now k) where
   -- words that hold the rules' state after it are accepted
-  pub rounded : (left : List ℕ) (r : Pass) (o : RoundOutcome) → round (state_of w) now ≡ o → Passed w left k o r → Rounded w left now k r
+  pub rounded : (left : List ℕ) (r : Option (Result Chosen Refusal)) (o : RoundOutcome) → round (state_of w) now ≡ o → Passed w left k o r → Rounded w left now k r
   rounded left r o e p =
       let q : Passed w left k (round (state_of w) now) r = subst⁻¹ (λ (x : RoundOutcome). Passed w left k x r) e p in
       record { came = q; accepted = shaped_accepted left q.words.shaped (subst⁻¹ HeldAccepted q.words.state (round_accepted (state_of w) now (holds_accepted w may.accepted) may.time)) }
 
   module _ (b : Bool) (eb : b ≡ fits (always_sums (state_of w))) where
-    pub always_stops : b ≡ false → (left : List ℕ) (r : Pass) → Marked w left k r → Rounded w left now k r
+    pub always_stops : b ≡ false → (left : List ℕ) (r : Option (Result Chosen Refusal)) → Marked w left k r → Rounded w left now k r
     always_stops f left r m = rounded left r _ (always_pass (state_of w) now (sym eb ∙ f)) m
 
     module _ (t : b ≡ true) where
@@ -147,8 +145,8 @@ module _ (w : List ℕ) (now k : ℕ) (may : MayRound w now k) where
       pub count_fits : total (state_of w) + 1 < 2 ^ 64
       count_fits = omega (arith, total_small)
 
-      module _ (n : Next) (took : TakenUp (take 256 w) (drop 256 w) now n (candidate (state_of w) now)) where
-        pub none_found : n ≡ Nothing → (left : List ℕ) → Becomes w left (counted (state_of w)) → Rounded w left now k (Answered (choice.Nothing (record { rounds = k + 1 })))
+      module _ (n : Option Candidate) (took : TakenUp (take 256 w) (drop 256 w) now n (candidate (state_of w) now)) where
+        pub none_found : n ≡ None → (left : List ℕ) → Becomes w left (counted (state_of w)) → Rounded w left now k (Some (Ok (record { event = None; rounds = k + 1 })))
         unfolding next_of
         none_found e left c =
             rounded left _ _ (both_fit (state_of w) now always (ap (λ (x : RulesCandidate). fits (candidate_sums (state_of w) now x)) is_none ∙ no_sums) ∙ ap (λ (x : RulesCandidate). closed (act (state_of w) now x)) is_none) (record { answer = refl; words = c })
@@ -156,7 +154,7 @@ module _ (w : List ℕ) (now k : ℕ) (may : MayRound w now k) where
             is_none : candidate (state_of w) now ≡ none_left
             is_none = sym took.picked.is ∙ ap (next_of (take 256 w)) e
 
-        module _ (c : Candidate) (e : n ≡ Take c) where
+        module _ (c : Candidate) (e : n ≡ Some c) where
           pub found_is : candidate_of (take 256 w) c ≡ candidate (state_of w) now
           unfolding next_of
           found_is = sym (ap (next_of (take 256 w)) e) ∙ took.picked.is
@@ -173,14 +171,14 @@ module _ (w : List ℕ) (now k : ℕ) (may : MayRound w now k) where
             case_sums : f ≡ fits (candidate_sums (state_of w) now (candidate (state_of w) now))
             case_sums = ef ∙ ap (λ (x : RulesCandidate). fits (candidate_sums (state_of w) now x)) found_is
 
-            pub candidate_stops : f ≡ false → (left : List ℕ) (r : Pass) → Marked w left k r → Rounded w left now k r
+            pub candidate_stops : f ≡ false → (left : List ℕ) (r : Option (Result Chosen Refusal)) → Marked w left k r → Rounded w left now k r
             candidate_stops g left r m = rounded left r _ (candidate_pass (state_of w) now (sym case_sums ∙ g)) m
 
             module _ (g : f ≡ true) where
               pub act_may : MayAct w now k c
               act_may = record { round = may; is = found_is; stands = found_stands; reckoned = found_reckoned; sums = sym ef ∙ g }
 
-              module _ (w₁ : List ℕ) (p : Pass) (a : Passed w w₁ k (act (state_of w) now (candidate_of (take 256 w) c)) p) where
+              module _ (w₁ : List ℕ) (p : Option (Result Chosen Refusal)) (a : Passed w w₁ k (act (state_of w) now (candidate_of (take 256 w) c)) p) where
                 same_total : total (state_of w₁) ≡ total (state_of w)
                 same_total = ap (λ (s : State). total s) a.words.state ∙ (act_steady (state_of w) now (candidate_of (take 256 w) c)).rounds
 

@@ -16,7 +16,9 @@ use Rattle.moment.specs.declared.Moment.{Moment}
 use Rattle.layout.specs.Layout.{state_of}
 use Rattle.layout.specs.Changes.{side_no}
 use Rattle.queue.specs.Changes.{MayRelease, Released, head_in}
-use Rattle.queue.specs.Heads.{chain_at, head_from}
+use Rattle.queue.specs.Queues.{queue_no, queue_of}
+use Rattle.queue.proofs.HeadsChains.{queue_range}
+use Rattle.queue.specs.Heads.{head_from}
 use Rattle.queue.specs.Stamps.{first_place, drop_aggregate}
 use Rattle.queue.specs.declared.peek.Head.{Head}
 use Rattle.event.proofs.Numbers.{event_known}
@@ -85,13 +87,13 @@ module _ (w : List ℕ) (a : AggregateDelay) (due : AggregateDue w a) where
 later_is : (x m now : ℕ) → x ≤ m → max m now ≡ max x (now + (m - now))
 later_is x m now l = omega arith
 
-module _ (w : List ℕ) (h : Head) (due : EventDue w h) (k : ℕ) (ek : (k ≡ h.chain + 5 * side_no (side_of h.event.client)) × (k ≤ 10)) where
+module _ (w : List ℕ) (h : Head) (due : EventDue w h) (k : ℕ) (ek : (k ≡ queue_no h.queue + 5 * side_no (side_of h.event.client)) × (k ≤ 10)) where
   pub event_release : MayRelease w k
   event_release =
       record {
         shaped = due.shaped;
         chain = omega (arith, ek.1);
-        used = omega (arith, ek.0, due.head.low);
+        used = omega (arith, ek.0, (queue_range h.queue).0);
         some = rw ek.0 due.head.some;
       }
 
@@ -102,7 +104,7 @@ module _ (w : List ℕ) (h : Head) (due : EventDue w h) (k : ℕ) (ek : (k ≡ h
         words =
             record {
               shaped = c.shaped;
-              state = released_event w w₁ k c (side_of h.event.client) (chain_at h.chain) (head_from h) (chain_number h.chain (side_of h.event.client) due.head.low due.head.high ∙ sym ek.0) refl refl (due.head.first ∙ ap (head_in w) (sym ek.0));
+              state = released_event w w₁ k c (side_of h.event.client) (queue_of h.queue) (head_from h) (chain_number h.queue (side_of h.event.client) ∙ sym ek.0) refl refl (due.head.first ∙ ap (head_in w) (sym ek.0));
               size = c.size;
               spare = beside_spare w w₁ c.beside;
             };

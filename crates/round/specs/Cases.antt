@@ -1,7 +1,8 @@
 -- What each case of a round asks, and what it answers. Assumes nothing.
-use Rattle.std.specs.Prelude.{ℕ, ◌+◌, ◌<◌, ◌≤◌, ◌≡◌, Bool, true, false, take, drop}
+use Rattle.std.specs.Prelude.{ℕ, ◌+◌, ◌<◌, ◌≤◌, ◌≡◌, Bool, true, false, Option, Some, None, Result, take, drop}
 use mathlib.Core.List.{List, head?}
-use Rattle.std.proofs.Math.Option.{Option, none, some}
+use Rattle.std.proofs.Math.Option.{Option as MathOption, none, some}
+use Rattle.moment.specs.declared.Length.{Length}
 use Rattle.rules.specs.Basics.{Side, PaddingSent, BlockingBegin, BlockingEnd}
 use Rattle.rules.specs.State.{Action, Event, State, BlockOutgoing, in_record, side, with_side, with_ended}
 use Rattle.rules.specs.Limits.{moment_limit}
@@ -13,6 +14,8 @@ use Rattle.event.specs.HandedIn.{side_of, aggregate_in}
 use Rattle.event.specs.Answers.{choice_of}
 use Rattle.event.specs.Values.{event_value, known_event}
 use Rattle.event.specs.declared.SimEvent.{SimEvent}
+use Rattle.event.specs.declared.answer.Chosen.{Chosen}
+use Rattle.event.specs.declared.answer.Refusal.{Refusal}
 use Rattle.event.specs.declared.AggregateDelay.{AggregateDelay}
 use Rattle.moment.specs.declared.Moment.{Moment}
 use Rattle.layout.specs.Accepted.{Accepted}
@@ -25,13 +28,10 @@ use Rattle.queue.specs.declared.peek.Head.{Head}
 use Rattle.queue_peek.specs.Decoded.{block_from}
 use Rattle.queue_peek.specs.declared.blocks.BlockEnd.{BlockEnd}
 use Rattle.delay.specs.Tests.{delayed_of}
-use Rattle.delay.specs.declared.Delayed.{Delayed}
 use Rattle.candidate.specs.Candidates.{action_value, held_up_at}
 use Rattle.candidate.specs.declared.Due.{Due}
 use Rattle.candidate.specs.declared.Planned.{Planned}
 use Rattle.round.specs.Changes.{Becomes, HasFree}
-use Rattle.round.specs.declared.round.Pass.{Pass}
-use Rattle.round.specs.declared.round.Pass.TheVariants.{On, Answered}
 
 -- ---- events made
 
@@ -103,7 +103,7 @@ abbrev pub start_block : State → Slot → Action → State
 start_block s z a = push_event (begun s z.side a) (acted_event BlockOutgoing (acted_side BlockOutgoing (side s z.side) a) z a)
 
 -- a block's end, three free records, sums within the limit, and what the test at it finds
-pub record BlockDue (w : List ℕ) (now : ℕ) (k : BlockEnd) (by : Delayed) : Type 0 where
+pub record BlockDue (w : List ℕ) (now : ℕ) (k : BlockEnd) (by : Option Length) : Type 0 where
   pub accepted : Accepted w
   pub time : now ≤ moment_limit
   pub set : (side (state_of w) (side_of k.client)).block_end ≡ some k.end.0
@@ -113,22 +113,22 @@ pub record BlockDue (w : List ℕ) (now : ℕ) (k : BlockEnd) (by : Delayed) : T
 -- ---- a round's answer
 
 -- another round, or the answer of the choice
-abbrev pub pass_of : Pass → Option Answer
-pass_of On = none
-pass_of (Answered c) = some (choice_of c)
+abbrev pub pass_of : Option (Result Chosen Refusal) → MathOption Answer
+pass_of None = none
+pass_of (Some c) = some (choice_of c)
 
 -- what the rules answer after a round, k being finished before it
-abbrev pub said : ℕ → RoundOutcome → Option Answer
+abbrev pub said : ℕ → RoundOutcome → MathOption Answer
 said k (next s) = none
 said k (taken e s) = some (event e (k + 1))
 said k (nothing s) = some (nothing_left (k + 1))
 said k (passed s) = some (refused 10 k)
 
 -- the round came to o: its answer, and the words that it leaves
-pub record Passed (w left : List ℕ) (k : ℕ) (o : RoundOutcome) (r : Pass) : Type 0 where
+pub record Passed (w left : List ℕ) (k : ℕ) (o : RoundOutcome) (r : Option (Result Chosen Refusal)) : Type 0 where
   pub answer : pass_of r ≡ said k o
   pub words : Becomes w left (state_after o)
 
 -- a sum passed the limit
-abbrev pub Marked : List ℕ → List ℕ → ℕ → Pass → Type 0
+abbrev pub Marked : List ℕ → List ℕ → ℕ → Option (Result Chosen Refusal) → Type 0
 Marked w left k r = Passed w left k (passed (with_ended (state_of w) true)) r

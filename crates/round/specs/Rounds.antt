@@ -1,18 +1,18 @@
 -- What a round and the rounds of a choice ask and promise. Assumes nothing.
-use Rattle.std.specs.Prelude.{ℕ, ◌<◌, ◌≤◌, ◌≡◌, true, List, length, take, drop}
+use Rattle.std.specs.Prelude.{ℕ, ◌<◌, ◌≤◌, ◌≡◌, true, List, Option, Result, length, take, drop}
 use Rattle.rules.specs.State.{rounds_left, total}
 use Rattle.rules.specs.Limits.{moment_limit}
 use Rattle.rules.specs.ChoiceRound.{candidate, candidate_sums, fits, round}
 use Rattle.rules.specs.Choice.{choose, rounds}
 use Rattle.event.specs.Answers.{choice_of}
-use Rattle.event.specs.declared.answer.Choice.{Choice}
+use Rattle.event.specs.declared.answer.Chosen.{Chosen}
+use Rattle.event.specs.declared.answer.Refusal.{Refusal}
 use Rattle.layout.specs.Accepted.{Accepted}
 use Rattle.layout.specs.Layout.{state_of}
 use Rattle.candidate.specs.Candidates.{candidate_of, Stands, Reckoned}
 use Rattle.candidate.specs.declared.Candidate.{Candidate}
 use Rattle.round.specs.Changes.{SpareKept}
 use Rattle.round.specs.Cases.{Passed}
-use Rattle.round.specs.declared.round.Pass.{Pass}
 
 -- a round may be made: of an accepted state, k rounds of the choice being finished
 pub record MayRound (w : List ℕ) (now k : ℕ) : Type 0 where
@@ -29,7 +29,7 @@ pub record MayAct (w : List ℕ) (now k : ℕ) (c : Candidate) : Type 0 where
   pub sums : fits (candidate_sums (state_of w) now (candidate_of (take 256 w) c)) ≡ true
 
 -- the rules' round, and accepted words
-pub record Rounded (w left : List ℕ) (now k : ℕ) (r : Pass) : Type 0 where
+pub record Rounded (w left : List ℕ) (now k : ℕ) (r : Option (Result Chosen Refusal)) : Type 0 where
   pub came : Passed w left k (round (state_of w) now) r
   pub accepted : Accepted left
 
@@ -46,7 +46,7 @@ pub record Choosing (w₀ w : List ℕ) (now k : ℕ) : Type 0 where
   pub spare : SpareKept w₀ w
 
 -- the rules' choice: its answer, and the words that it leaves
-pub record Chose (w left : List ℕ) (now : ℕ) (r : Choice) : Type 0 where
+pub record Chose (w left : List ℕ) (now : ℕ) (r : Result Chosen Refusal) : Type 0 where
   pub answer : choice_of r ≡ (choose (state_of w) now).answer
   pub state : state_of left ≡ (choose (state_of w) now).state
   pub accepted : Accepted left

@@ -1,12 +1,11 @@
 // A round takes an aggregate, or an event.
-ghost use Rattle.std.specs.Prelude.{◌≡◌};
 ghost use Rattle.rules.specs.State.{in_record};
 ghost use Rattle.rules.specs.ChoiceRound.{take_aggregate};
 ghost use Rattle.event.specs.HandedIn.{aggregate_in};
 ghost use Rattle.layout.specs.Layout.{state_of};
 ghost use Rattle.queue.specs.Changes.{head_in};
 ghost use Rattle.round.specs.Changes.{Becomes};
-ghost use Rattle.round.specs.Cases.{AggregateDue, EventDue, EventTaken, moved_to};
+ghost use Rattle.round.specs.Cases.{AggregateDue, EventDue, EventTaken};
 
 use crate::stores;
 use event::{AggregateDelay, SimEvent};
@@ -23,31 +22,15 @@ pub fn take_aggregate(block: &mut [u64], a: AggregateDelay)
     records::release(block, header::AGGREGATES);
 }
 
-// The event at a moment.
-fn event_at(e: SimEvent, moment: Moment) -> SimEvent
-    ensures { result ≡ moved_to e moment }
-{
-    let kind = e.kind;
-    let delay = e.delay;
-    SimEvent {
-        kind,
-        moment,
-        delay,
-        client: e.client,
-        padding: e.padding,
-        bypass: e.bypass,
-        replace: e.replace,
-        machine: e.machine,
-    }
-}
-
 // A head of the queues, at its moment or at the time, whichever is later.
 pub fn take_event(block: &mut [u64], time: Moment, h: Head) -> SimEvent
     requires { EventDue block.old h }
     ensures { EventTaken block.old block.new time.0 h result }
 {
     let e = h.event;
-    let k = header::chain(h.chain, e.client);
-    records::release(block, k);
-    event_at(e, h.moment.later(time))
+    records::release(block, h.queue.chain(e.client));
+    SimEvent {
+        moment: h.moment.max(time),
+        ..e
+    }
 }

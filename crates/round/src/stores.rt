@@ -31,15 +31,6 @@ pub fn clear_block(block: &mut [u64], client: bool)
     block[at] = 0;
 }
 
-fn bit(b: bool) -> u64
-    ensures { result ≡ bit_of b }
-{
-    if b {
-        return 1;
-    }
-    0
-}
-
 // A side is blocked until a moment.
 pub fn set_block(block: &mut [u64], client: bool, end: Moment, bypass: bool)
     requires fact_1 { Shaped block.old }
@@ -49,18 +40,7 @@ pub fn set_block(block: &mut [u64], client: bool, end: Moment, bypass: bool)
     let until = header::place(header::BLOCK, client);
     let flag = header::place(header::BYPASSABLE, client);
     block[until] = end.stored();
-    block[flag] = bit(bypass);
-}
-
-// The number of a machine's slot: the client's sixteen, then the server's.
-fn slot(client: bool, machine: u64) -> usize
-    requires { machine < 16 }
-    ensures { (result ≡ 16 * side_no (side_of client) + machine) × (result < 32) }
-{
-    if client {
-        return machine as usize;
-    }
-    16 + machine as usize
+    block[flag] = u64::from(bypass);
 }
 
 pub fn clear_timer(block: &mut [u64], client: bool, machine: u64)
@@ -68,8 +48,8 @@ pub fn clear_timer(block: &mut [u64], client: bool, machine: u64)
     requires fact_2 { machine < 16 }
     ensures { Becomes block.old block.new (timer_cleared (state_of block.old) (slot_at (side_of client) machine)) }
 {
-    let j = slot(client, machine);
-    block[64 + j] = 0;
+    let at = header::TIMERS + header::slot(client, machine);
+    block[at] = 0;
 }
 
 pub fn clear_action(block: &mut [u64], client: bool, machine: u64)
@@ -77,7 +57,7 @@ pub fn clear_action(block: &mut [u64], client: bool, machine: u64)
     requires fact_2 { machine < 16 }
     ensures { Becomes block.old block.new (action_cleared (state_of block.old) (slot_at (side_of client) machine)) }
 {
-    let j = slot(client, machine);
+    let j = header::slot(client, machine);
     block[96 + 3 * j] = 0;
     block[97 + 3 * j] = 0;
     block[98 + 3 * j] = 0;

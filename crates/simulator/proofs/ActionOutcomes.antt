@@ -1,10 +1,11 @@
--- The promise of setting and clearing an action, from the number 0 and the words stored. Assumes nothing.
+-- The promise of setting and clearing an action, from the call's having no number and the words stored. Assumes nothing.
 use Prim.Native.Nat.{ℕ, zero, suc, ◌+◌, ◌*◌, ◌≤◌, ◌<◌}
 use mathlib.Core.Path.{◌≡◌, refl, sym, ap, subst, ◌∙◌}
 use mathlib.Core.Bool.{Bool, false, not, false≢true}
 use mathlib.Core.List.{List}
+use mathlib.Core.Option.{none}
 use native.Mathlib.Omega.{arith}
-use lib.ListN.{length, get_or}
+use lib.ListN.{get_or}
 use Rattle.rules.specs.Basics.{is_some}
 use Rattle.rules.specs.State.{SendPadding, BlockOutgoing}
 use Rattle.rules.specs.ChoiceRound.{action_cleared}
@@ -44,17 +45,17 @@ kept_of (suc (suc (suc k))) t d b p e = absurd (false≢true (sym e))
 
 -- ---- setting
 
-module _ (w : List ℕ) (c : Bool) (m : ℕ) (r : ActionIn) (n : ℕ) (num : Numbered w (set_action (slot_in c m) r) n) (z : n ≡ 0) where
+module _ (w : List ℕ) (c : Bool) (m : ℕ) (r : ActionIn) (num : Numbered w (set_action (slot_in c m) r) none) where
   abbrev setting : Call
   setting = set_action (slot_in c m) r
 
   action_free : AllFalse (table (state_of w) (set_action (slot_in c m) r))
   unfolding table refusal
-  action_free = none_met (table (state_of w) setting) (passed_none w setting n num z)
+  action_free = none_met (table (state_of w) setting) (passed_none w setting num)
 
   pub action_small : m < 16
   unfolding table
-  action_small = has_small w c m (passed_accepted w setting n num z) action_free.1.0
+  action_small = has_small w c m (passed_accepted w setting num) action_free.1.0
 
   pub action_kept : KeptAction r (r.kind + 4 * bit r.bypass + 8 * bit r.replace) (kept_no r.kind r.duration)
   unfolding table
@@ -63,16 +64,13 @@ module _ (w : List ℕ) (c : Bool) (m : ℕ) (r : ActionIn) (n : ℕ) (num : Num
   pub action_kind : r.kind ≤ 2
   action_kind = action_kept.small
 
-  pub action_long : 260 ≤ length w
-  action_long = (passed_accepted w setting n num z).size.least
-
   action_does : (word kept : ℕ) → KeptAction r word kept → Does w (set_action (slot_in c m) r) done (put_action (16 * side_no (side_of c) + m) word r.moment kept w)
   unfolding work
   action_does word kept k =
       record {
-        shaped = action_shaped w (passed_shaped w setting n num z) word r.moment kept (side_of c) m action_small k.shape;
+        shaped = action_shaped w (passed_shaped w setting num) word r.moment kept (side_of c) m action_small k.shape;
         answer = refl;
-        state = action_stored w (passed_shaped w setting n num z) word r.moment kept (side_of c) m action_small ∙ k.back (state_of w) (slot_in c m);
+        state = action_stored w (passed_shaped w setting num) word r.moment kept (side_of c) m action_small ∙ k.back (state_of w) (slot_in c m);
         spare = action_spare w (16 * side_no (side_of c) + m) word r.moment kept (slot_below c m action_small);
         size = length_action w (16 * side_no (side_of c) + m) word r.moment kept;
         ten = λ now e q. absurd (let x : ◌≡◌ {A = ℕ} 0 1 = cc in omega arith);
@@ -82,32 +80,29 @@ module _ (w : List ℕ) (c : Bool) (m : ℕ) (r : ActionIn) (n : ℕ) (num : Num
       (j : ℕ) → (j ≡ 16 * side_no (side_of c) + m) × (j < 32) → (word kept : ℕ) → word ≡ r.kind + 4 * bit r.bypass + 8 * bit r.replace → kept ≡ kept_no r.kind r.duration
       → (left : List ℕ) → left ≡ put_action j word r.moment kept w → Outcome w (set_action (slot_in c m) r) done left
   action_done j ej word kept ew ek left e =
-      subst (Outcome w setting done) (sym (e ∙ (λ d. put_action (ej.0 d) (ew d) r.moment (ek d) w))) (outcome_done w setting n num z done _ (action_does _ _ action_kept))
+      subst (Outcome w setting done) (sym (e ∙ (λ d. put_action (ej.0 d) (ew d) r.moment (ek d) w))) (outcome_done w setting num done _ (action_does _ _ action_kept))
 
 -- ---- clearing
 
-module _ (w : List ℕ) (c : Bool) (m n : ℕ) (num : Numbered w (clear_action (slot_in c m)) n) (z : n ≡ 0) where
+module _ (w : List ℕ) (c : Bool) (m : ℕ) (num : Numbered w (clear_action (slot_in c m)) none) where
   abbrev clearing : Call
   clearing = clear_action (slot_in c m)
 
   pub emptied_small : m < 16
   unfolding table refusal
-  emptied_small = has_small w c m (passed_accepted w clearing n num z) (none_met (table (state_of w) clearing) (passed_none w clearing n num z)).1.0
-
-  pub emptied_long : 260 ≤ length w
-  emptied_long = (passed_accepted w clearing n num z).size.least
+  emptied_small = has_small w c m (passed_accepted w clearing num) (none_met (table (state_of w) clearing) (passed_none w clearing num)).1.0
 
   emptied_does : Does w (clear_action (slot_in c m)) done (put_action (16 * side_no (side_of c) + m) 0 0 0 w)
   unfolding work action_cleared
   emptied_does =
       record {
-        shaped = action_shaped w (passed_shaped w clearing n num z) 0 0 0 (side_of c) m emptied_small empty_canonical;
+        shaped = action_shaped w (passed_shaped w clearing num) 0 0 0 (side_of c) m emptied_small empty_canonical;
         answer = refl;
-        state = action_stored w (passed_shaped w clearing n num z) 0 0 0 (side_of c) m emptied_small ∙ ap (put_in (state_of w) (slot_in c m)) empty_back;
+        state = action_stored w (passed_shaped w clearing num) 0 0 0 (side_of c) m emptied_small ∙ ap (put_in (state_of w) (slot_in c m)) empty_back;
         spare = action_spare w (16 * side_no (side_of c) + m) 0 0 0 (slot_below c m emptied_small);
         size = length_action w (16 * side_no (side_of c) + m) 0 0 0;
         ten = λ now e q. absurd (let x : ◌≡◌ {A = ℕ} 0 1 = cc in omega arith);
       }
 
   pub emptied_done : (j : ℕ) → (j ≡ 16 * side_no (side_of c) + m) × (j < 32) → (left : List ℕ) → left ≡ put_action j 0 0 0 w → Outcome w (clear_action (slot_in c m)) done left
-  emptied_done j ej left e = subst (Outcome w clearing done) (sym (e ∙ (λ d. put_action (ej.0 d) 0 0 0 w))) (outcome_done w clearing n num z done _ emptied_does)
+  emptied_done j ej left e = subst (Outcome w clearing done) (sym (e ∙ (λ d. put_action (ej.0 d) 0 0 0 w))) (outcome_done w clearing num done _ emptied_does)

@@ -1,11 +1,11 @@
 pub mod Outcomes
 pub mod Admitting
 pub mod Rows
+pub mod Handed
 pub mod Reading
 pub mod EventNumbers
 pub mod SlotRoom
 pub mod SlotNumbers
-pub mod SlotWords
 pub mod Frees
 pub mod Working
 pub mod SlotOutcomes

@@ -1,40 +1,24 @@
--- The words that opening writes: all cleared, the settings, the free records chained upward. Assumes nothing.
+-- The words that opening writes: the settings over cleared words, the free records chained upward. Assumes nothing.
 use Prim.Native.Nat.{ℕ, zero, suc, ◌+◌, ◌-◌, ◌*◌, ◌/◌, ◌%◌, ◌≤◌, ◌<◌}
-use mathlib.Core.Path.{◌≡◌, refl, sym, ap, ap₂, ◌∙◌}
+use mathlib.Core.Path.{◌≡◌, refl, sym, ap, ◌∙◌}
 use mathlib.Core.Bool.{Bool, true, false}
 use mathlib.Core.List.{List, [], ◌∷◌, ◌++◌}
 use native.Mathlib.Omega.{arith}
 use native.Mathlib.Decide.{ℕ_discrete}
 use lib.Dec.{eqb, ltb}
-use lib.ListN.{length, get_or, set, take, drop, replicate, length-set, length-drop, get_or-append}
+use lib.ListN.{length, get_or, set, take, drop, replicate, length-replicate, length-set, length-drop, get_or-append}
 use lib.Seq.{get_or-set_same, get_or-set_other, get_or-drop, get_or-take, get_or-append-add, length-take-le}
-use borrow.Author.Tests.{ltb-true, ltb-false, lt-ltb, eq-eqb, ne_eqb}
+use borrow.Author.Tests.{ltb-true, lt-ltb, eq-eqb, ne_eqb}
 use borrow.Rule.Slice.PartMut.{put_mid, same_len_mid}
 use Rattle.std.specs.Prelude.{if◌then◌else◌}
 use Rattle.rules.specs.Opening.{Opening, records_in}
-use Rattle.queue_event.specs.Words.{In, put}
+use Rattle.queue_event.specs.Words.{put}
 use Rattle.layout.specs.Accepted.{SizeOk}
 use Rattle.layout.specs.Opened.{first_words, head_word, opened_words, record_word}
 use Rattle.layout.proofs.Parts.{back_is, rest_part}
 use Rattle.layout.proofs.Tables.{list_past, opened_is}
-use Rattle.simulator.specs.OpeningParts.{AllZero, Chained, Cleared, put_head, put_settings}
+use Rattle.simulator.specs.OpeningParts.{AllZero, Chained, put_head, put_settings}
 use Rattle.simulator.proofs.Reading.{same_ltb}
-
--- ---- clearing
-
-pub clear_turn : (b₀ b : List ℕ) (i : ℕ) → i < length b → Cleared b₀ b i → Cleared b₀ (set b i 0) (i + 1)
-clear_turn b₀ b i l c = (rw length-set (omega arith), (length-set b i 0 ∙ c.1.0, λ k q. go k q (ℕ_discrete k i)))
-  where
-    go : (k : ℕ) → k < i + 1 → Dec (k ≡ i) → get_or (set b i 0) k 0 ≡ 0
-    go k q (yes e) = rw e (get_or-set_same b i 0 0 l)
-    go k q (no d) = get_or-set_other b i k 0 0 d ∙ c.1.1 k (omega arith)
-
-pub clear_end : (b₀ b : List ℕ) (i : ℕ) → length b ≤ i → Cleared b₀ b i → (length b ≡ length b₀) × AllZero b
-clear_end b₀ b i l c = (c.1.0, λ k. go k (ltb k (length b)) refl)
-  where
-    go : (k : ℕ) (t : Bool) → ltb k (length b) ≡ t → get_or b k 0 ≡ 0
-    go k true e = c.1.1 k (omega (arith, ltb-true k (length b) e))
-    go k false e = list_past b k (ltb-false k (length b) e)
 
 -- ---- the free chain
 
@@ -68,9 +52,6 @@ word_new r k l e =
     let c : r + 1 ≡ k / 4 + 2 = omega arith in
     rw (eq-eqb (k % 4) 0 a, lt-ltb (k / 4 + 1) (r + 1) b) c
 
-pub chain_in : (rs₀ : List ℕ) (count : ℕ) (rs : List ℕ) (r : ℕ) → length rs₀ ≡ 4 * count → r < count → Chained rs₀ count rs r → In rs r
-chain_in rs₀ count rs r e l c = record { one = c.0.0; fits = omega (arith, c.1.0) }
-
 pub chain_turn :
     (rs₀ : List ℕ) (count : ℕ) (rs rs' : List ℕ) (r : ℕ) → length rs₀ ≡ 4 * count → r < count → Chained rs₀ count rs r → rs' ≡ put rs r 0 (r + 1)
     → Chained rs₀ count rs' (r + 1)
@@ -92,10 +73,6 @@ chain_end rs₀ count rs r l c = let e : r ≡ count = omega (arith, c.0.1) in (
 abbrev zeros : ℕ → List ℕ
 zeros m = replicate m 0
 
-all_zero : (l : List ℕ) → AllZero l → l ≡ zeros (length l)
-all_zero [] z = refl
-all_zero (x ∷ l) z = ap₂ (λ a b. a ∷ b) (z 0) (all_zero l (λ k. z (suc k)))
-
 zero_at : (m i : ℕ) → get_or (zeros m) i 0 ≡ 0
 zero_at zero i = refl
 zero_at (suc m) zero = refl
@@ -109,10 +86,10 @@ zero_after (x ∷ a) m (suc i) = zero_after a m i
 head_zeros : (o : Opening) (r m : ℕ) → put_head o r (zeros (suc (suc (suc (suc (suc (suc (suc (suc (suc (suc (suc (suc (suc (suc (suc (suc (suc (suc (suc (suc (suc (suc (suc (suc (suc (suc m))))))))))))))))))))))))))) ≡ first_words o r ++ zeros m
 head_zeros o r m = refl
 
-pub head_words : (o : Opening) (r : ℕ) (w : List ℕ) → AllZero w → 260 ≤ length w → (i : ℕ) → get_or (put_head o r w) i 0 ≡ head_word o r i
-head_words o r w z l i = ap (λ x. get_or (put_head o r x) i 0) (all_zero w z ∙ ap zeros (sym past)) ∙ ap (λ x. get_or x i 0) (head_zeros o r (length w - 26)) ∙ zero_after (first_words o r) (length w - 26) i
+pub head_words : (o : Opening) (r m : ℕ) → 260 ≤ m → (i : ℕ) → get_or (put_head o r (zeros m)) i 0 ≡ head_word o r i
+head_words o r m l i = ap (λ k. get_or (put_head o r (zeros k)) i 0) (sym past) ∙ ap (λ x. get_or x i 0) (head_zeros o r (m - 26)) ∙ zero_after (first_words o r) (m - 26) i
   where
-    past : suc (suc (suc (suc (suc (suc (suc (suc (suc (suc (suc (suc (suc (suc (suc (suc (suc (suc (suc (suc (suc (suc (suc (suc (suc (suc (length w - 26)))))))))))))))))))))))))) ≡ length w
+    past : suc (suc (suc (suc (suc (suc (suc (suc (suc (suc (suc (suc (suc (suc (suc (suc (suc (suc (suc (suc (suc (suc (suc (suc (suc (suc (m - 26)))))))))))))))))))))))))) ≡ m
     past = omega arith
 
 length_settings : (o : Opening) (w : List ℕ) → length (put_settings o w) ≡ length w
@@ -124,26 +101,26 @@ length_head o r w = simp length-set
 -- ---- the whole block
 
 module _
-    (w₀ w w₂ : List ℕ) (o : Opening) (size : SizeOk (length w₀)) (cleared : (length w ≡ length w₀) × AllZero w) (settings : w₂ ≡ put_settings o w)
+    (w₀ w w₂ : List ℕ) (o : Opening) (size : SizeOk (length w₀)) (cleared : w ≡ zeros (length w₀)) (settings : w₂ ≡ put_settings o w)
     (count : ℕ) (ec : count ≡ (length w₂ - 256) / 4) where
   -- the words before the records are lent on
   abbrev pub headed : List ℕ
   headed = set (set w₂ 24 1) 25 count
 
-  same_words : headed ≡ put_head o count w
-  same_words = ap (λ x. set (set x 24 1) 25 count) settings
+  same_words : headed ≡ put_head o count (zeros (length w₀))
+  same_words = ap (λ x. set (set x 24 1) 25 count) (settings ∙ ap (put_settings o) cleared)
 
-  pub settings_long : length w₂ ≡ length w₀
-  settings_long = ap length settings ∙ length_settings o w ∙ cleared.0
+  cleared_long : length w ≡ length w₀
+  cleared_long = ap length cleared ∙ length-replicate (length w₀) 0
 
   long : length headed ≡ length w₀
-  long = ap length same_words ∙ length_head o count w ∙ cleared.0
+  long = ap length same_words ∙ length_head o count (zeros (length w₀)) ∙ length-replicate (length w₀) 0
 
   records_are : count ≡ records_in (length w₀)
-  records_are = ec ∙ ap records_in settings_long
+  records_are = ec ∙ ap records_in (ap length settings ∙ length_settings o w ∙ cleared_long)
 
   words_are : (i : ℕ) → get_or headed i 0 ≡ head_word o count i
-  words_are i = ap (λ x. get_or x i 0) same_words ∙ head_words o count w cleared.1 (omega (arith, cleared.0, size.least)) i
+  words_are i = ap (λ x. get_or x i 0) same_words ∙ head_words o count (length w₀) size.least i
 
   pub rest_ready : ((length (take (length headed - 256) (drop 256 headed)) ≡ 4 * count) × (1 ≤ count)) × AllZero (take (length headed - 256) (drop 256 headed))
   rest_ready = (

@@ -1,11 +1,11 @@
--- The promise of a push, from the number 0 and the event queued. Assumes nothing.
+-- The promise of a push, from the call's having no number and the event queued. Assumes nothing.
 use Prim.Native.Nat.{ℕ, suc, ◌≤◌, ◌<◌}
 use mathlib.Core.Path.{◌≡◌, refl, sym, ap, subst, ◌∙◌}
 use mathlib.Core.Bool.{Bool, true, false, ◌&&◌, true≢false}
 use mathlib.Core.List.{List}
 use mathlib.Core.Logic.{◌⊎◌}
 use mathlib.Core.Option
-use mathlib.Core.Option.{map}
+use mathlib.Core.Option.{none, map}
 use native.Mathlib.Omega.{arith}
 use lib.ListN.{get_or, take, drop}
 use borrow.Author.Tests.{ltb-false}
@@ -39,14 +39,6 @@ use Rattle.simulator.proofs.Working.{outcome_done, passed_shaped}
 
 -- ---- the event as it is kept
 
-pub kept_same : (e : SimEvent) (b : Bool) → b ≡ has_machine_no e.kind.0 → b ≡ true → e ≡ kept_event e
-kept_same e b p q = λ d. record { kind = e.kind; moment = e.moment; delay = e.delay; client = e.client; padding = e.padding; bypass = e.bypass; replace = e.replace; machine = if (sym q ∙ p) d then e.machine else 0 }
-
-pub kept_zero :
-    (e : SimEvent) (b : Bool) → b ≡ has_machine_no e.kind.0 → b ≡ false
-    → record { kind = e.kind; moment = e.moment; delay = e.delay; client = e.client; padding = e.padding; bypass = e.bypass; replace = e.replace; machine = 0 } ≡ kept_event e
-kept_zero e b p q = λ d. record { kind = e.kind; moment = e.moment; delay = e.delay; client = e.client; padding = e.padding; bypass = e.bypass; replace = e.replace; machine = if (sym q ∙ p) d then e.machine else 0 }
-
 -- the kept event is the rules' own
 machine_kind : (n : ℕ) → n < 10 → has_machine_no n ≡ has_machine (kind_at n)
 unfolding has_machine_no
@@ -60,13 +52,13 @@ value_is e l = λ d.
 spared : (w left : List ℕ) → ((i : ℕ) → i < 256 → (i < 24) ⊎ (48 ≤ i) → get_or left i 0 ≡ get_or w i 0) → (i : ℕ) → Spare i → get_or left i 0 ≡ get_or w i 0
 spared w left b i s = b i (spare_head i s).1 (spare_chains i s)
 
-module _ (w : List ℕ) (e : SimEvent) (n : ℕ) (num : Numbered w (push (event_in e)) n) (z : n ≡ 0) where
+module _ (w : List ℕ) (e : SimEvent) (num : Numbered w (push (event_in e)) none) where
   abbrev pushing : Call
   pushing = push (event_in e)
 
   push_free : AllFalse (table (state_of w) (push (event_in e)))
   unfolding table refusal
-  push_free = none_met (table (state_of w) pushing) (passed_none w pushing n num z)
+  push_free = none_met (table (state_of w) pushing) (passed_none w pushing num)
 
   kinds : e.kind.0 ≤ 9
   unfolding table
@@ -79,7 +71,7 @@ module _ (w : List ℕ) (e : SimEvent) (n : ℕ) (num : Numbered w (push (event_
   room_left : 0 < count_in w 0
   unfolding table
   room_left =
-      let q = ltb-false (get_or (take 256 w) 25 0) (suc (reserved (take 256 w))) (sym (full_push (take 256 w) (drop 256 w) (passed_accepted w pushing n num z).good (event_in e) kinds) ∙ push_free.1.1.1.1.0) in
+      let q = ltb-false (get_or (take 256 w) 25 0) (suc (reserved (take 256 w))) (sym (full_push (take 256 w) (drop 256 w) (passed_accepted w pushing num).good (event_in e) kinds) ∙ push_free.1.1.1.1.0) in
       omega arith
 
   canonical : Canonical (kept_event e)
@@ -89,13 +81,13 @@ module _ (w : List ℕ) (e : SimEvent) (n : ℕ) (num : Numbered w (push (event_
       go true p q =
           record {
             kind = kinds;
-            machine = rw p (has_small w e.client e.machine (passed_accepted w pushing n num z) q);
+            machine = rw p (has_small w e.client e.machine (passed_accepted w pushing num) q);
             none = λ x. absurd (true≢false (sym p ∙ x));
           }
       go false p q = record { kind = kinds; machine = rw p (omega arith); none = λ x. rw p }
 
   pub push_may : (k : SimEvent) → k ≡ kept_event e → MayPush w k
-  push_may k q = subst (MayPush w) (sym q) (record { shaped = passed_shaped w pushing n num z; free = room_left; canonical = canonical })
+  push_may k q = subst (MayPush w) (sym q) (record { shaped = passed_shaped w pushing num; free = room_left; canonical = canonical })
 
   push_does : (left : List ℕ) → Leaves w left (push_event (state_of w) (event_value (kept_event e))) → Does w (push (event_in e)) done left
   unfolding work
@@ -110,4 +102,4 @@ module _ (w : List ℕ) (e : SimEvent) (n : ℕ) (num : Numbered w (push (event_
       }
 
   pub push_done : (k : SimEvent) → k ≡ kept_event e → (left : List ℕ) → Leaves w left (push_event (state_of w) (event_value k)) → Outcome w (push (event_in e)) done left
-  push_done k q left l = outcome_done w pushing n num z done left (push_does left (subst (λ x. Leaves w left (push_event (state_of w) (event_value x))) q l))
+  push_done k q left l = outcome_done w pushing num done left (push_does left (subst (λ x. Leaves w left (push_event (state_of w) (event_value x))) q l))

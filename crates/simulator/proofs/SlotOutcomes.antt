@@ -1,11 +1,12 @@
--- The promise of setting and clearing a timer, from the number 0 and the words stored. Assumes nothing.
-use Prim.Native.Nat.{ℕ, suc, ◌+◌, ◌*◌, ◌^◌, ◌≤◌, ◌<◌}
+-- The promise of setting and clearing a timer, from the call's having no number and the words stored. Assumes nothing.
+use Prim.Native.Nat.{ℕ, suc, ◌+◌, ◌*◌, ◌^◌, ◌<◌}
 use mathlib.Core.Path.{◌≡◌, refl, sym, subst, ◌∙◌}
 use mathlib.Core.Bool.{Bool, true, false}
 use mathlib.Core.List.{List}
+use mathlib.Core.Option.{none}
 use native.Mathlib.Omega.{arith}
 use native.Mathlib.Numerals.{add-one}
-use lib.ListN.{length, get_or, set, take, drop, length-set}
+use lib.ListN.{get_or, set, take, drop, length-set}
 use lib.Seq.{get_or-set_other}
 use borrow.Author.Tests.{ltb-false}
 use Rattle.rules.specs.Limits.{moment_limit}
@@ -45,64 +46,58 @@ slot_below false m l = omega arith
 
 -- ---- setting a timer
 
-module _ (w : List ℕ) (c : Bool) (m t n : ℕ) (num : Numbered w (set_timer (slot_in c m) t) n) (z : n ≡ 0) where
+module _ (w : List ℕ) (c : Bool) (m t : ℕ) (num : Numbered w (set_timer (slot_in c m) t) none) where
   abbrev setting : Call
   setting = set_timer (slot_in c m) t
 
   timer_free : AllFalse (table (state_of w) (set_timer (slot_in c m) t))
   unfolding table refusal
-  timer_free = none_met (table (state_of w) setting) (passed_none w setting n num z)
+  timer_free = none_met (table (state_of w) setting) (passed_none w setting num)
 
   pub timer_small : m < 16
   unfolding table
-  timer_small = has_small w c m (passed_accepted w setting n num z) timer_free.1.0
+  timer_small = has_small w c m (passed_accepted w setting num) timer_free.1.0
 
   pub timer_fits : t + 1 < 2 ^ 64
   unfolding table
   timer_fits = omega (arith, ltb-false moment_limit t timer_free.1.1.0)
 
-  pub timer_long : 260 ≤ length w
-  timer_long = (passed_accepted w setting n num z).size.least
-
   timer_does : Does w (set_timer (slot_in c m) t) done (set w (64 + (16 * side_no (side_of c) + m)) (suc t))
   unfolding work timer_set
   timer_does =
       record {
-        shaped = timer_shaped w (passed_shaped w setting n num z) (suc t) (side_of c) m timer_small;
+        shaped = timer_shaped w (passed_shaped w setting num) (suc t) (side_of c) m timer_small;
         answer = refl;
-        state = timer_stored w (passed_shaped w setting n num z) (suc t) (side_of c) m timer_small;
+        state = timer_stored w (passed_shaped w setting num) (suc t) (side_of c) m timer_small;
         spare = timer_spare w (16 * side_no (side_of c) + m) (suc t) (slot_below c m timer_small);
         size = length-set w (64 + (16 * side_no (side_of c) + m)) (suc t);
         ten = λ now e q. absurd (let x : ◌≡◌ {A = ℕ} 0 1 = cc in omega arith);
       }
 
   pub timer_done : (j u : ℕ) → (j ≡ 16 * side_no (side_of c) + m) × (j < 32) → u ≡ t + 1 → Outcome w (set_timer (slot_in c m) t) done (set w (64 + j) u)
-  timer_done j u ej eu = subst (Outcome w setting done) (sym (λ d. set w (64 + ej.0 d) ((eu ∙ add-one t) d))) (outcome_done w setting n num z done _ timer_does)
+  timer_done j u ej eu = subst (Outcome w setting done) (sym (λ d. set w (64 + ej.0 d) ((eu ∙ add-one t) d))) (outcome_done w setting num done _ timer_does)
 
 -- ---- clearing a timer
 
-module _ (w : List ℕ) (c : Bool) (m n : ℕ) (num : Numbered w (clear_timer (slot_in c m)) n) (z : n ≡ 0) where
+module _ (w : List ℕ) (c : Bool) (m : ℕ) (num : Numbered w (clear_timer (slot_in c m)) none) where
   abbrev clearing : Call
   clearing = clear_timer (slot_in c m)
 
   pub clear_small : m < 16
   unfolding table refusal
-  clear_small = has_small w c m (passed_accepted w clearing n num z) (none_met (table (state_of w) clearing) (passed_none w clearing n num z)).1.0
-
-  pub clear_long : 260 ≤ length w
-  clear_long = (passed_accepted w clearing n num z).size.least
+  clear_small = has_small w c m (passed_accepted w clearing num) (none_met (table (state_of w) clearing) (passed_none w clearing num)).1.0
 
   clear_does : Does w (clear_timer (slot_in c m)) done (set w (64 + (16 * side_no (side_of c) + m)) 0)
   unfolding work timer_cleared
   clear_does =
       record {
-        shaped = timer_shaped w (passed_shaped w clearing n num z) 0 (side_of c) m clear_small;
+        shaped = timer_shaped w (passed_shaped w clearing num) 0 (side_of c) m clear_small;
         answer = refl;
-        state = timer_stored w (passed_shaped w clearing n num z) 0 (side_of c) m clear_small;
+        state = timer_stored w (passed_shaped w clearing num) 0 (side_of c) m clear_small;
         spare = timer_spare w (16 * side_no (side_of c) + m) 0 (slot_below c m clear_small);
         size = length-set w (64 + (16 * side_no (side_of c) + m)) 0;
         ten = λ now e q. absurd (let x : ◌≡◌ {A = ℕ} 0 1 = cc in omega arith);
       }
 
   pub clear_done : (j : ℕ) → (j ≡ 16 * side_no (side_of c) + m) × (j < 32) → Outcome w (clear_timer (slot_in c m)) done (set w (64 + j) 0)
-  clear_done j ej = subst (Outcome w clearing done) (sym (λ d. set w (64 + ej.0 d) 0)) (outcome_done w clearing n num z done _ clear_does)
+  clear_done j ej = subst (Outcome w clearing done) (sym (λ d. set w (64 + ej.0 d) 0)) (outcome_done w clearing num done _ clear_does)

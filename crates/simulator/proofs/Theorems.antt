@@ -4,14 +4,15 @@ use Prim.Native.Nat.{ℕ}
 use mathlib.Core.Path.{◌≡◌, refl}
 use mathlib.Core.List.{List}
 use lib.ListN.{length}
+use Rattle.std.specs.Prelude.{Result}
 use Rattle.rules.specs.Arguments.{Call, pick_next}
 use Rattle.rules.specs.Choice.{Answer as RulesAnswer}
 use Rattle.rules.specs.Opening.{Opening}
 use Rattle.rules.specs.Contents.{Agree}
 use Rattle.event.specs.Answers.{answer_of, choice_of, step_of}
-use Rattle.event.specs.declared.answer.Answer.{Answer}
-use Rattle.event.specs.declared.answer.Choice.{Choice}
-use Rattle.event.specs.declared.answer.Step.{Step}
+use Rattle.event.specs.declared.answer.Chosen.{Chosen}
+use Rattle.event.specs.declared.answer.Refusal.{Refusal}
+use Rattle.event.specs.declared.answer.Stepped.{Stepped}
 use Rattle.layout.specs.Accepted.{Accepted}
 use Rattle.layout.specs.Layout.{state_of}
 use Rattle.layout.specs.Packed.{packed_words}
@@ -41,20 +42,20 @@ demand_3 w l h r = demand_of words_hold free_records w l h r
 
 -- They answer the same, field by field as the code gives it, whether the words are accepted or not. What push, set and clear answer:
 pub one_answer :
-    (w : List ℕ) (c : Call) (a b : Answer) (left right : List ℕ) → Dec (Accepted w)
+    (w : List ℕ) (c : Call) (a b : Result Unit Refusal) (left right : List ℕ) → Dec (Accepted w)
     → Outcome w c (answer_of a) left → Outcome w c (answer_of b) right → a ≡ b
 one_answer w c a b left right h o p = answer_one a b (same_answer w c _ _ left right o p h)
 
 -- what a choice answers, the number of the event's kind included:
 pub one_choice :
-    (w : List ℕ) (now : ℕ) (a b : Choice) (left right : List ℕ) → Dec (Accepted w)
+    (w : List ℕ) (now : ℕ) (a b : Result Chosen Refusal) (left right : List ℕ) → Dec (Accepted w)
     → Outcome w (pick_next now) (choice_of a) left → Outcome w (pick_next now) (choice_of b) right → a ≡ b
 one_choice w now a b left right h o p =
     choice_one a b (choice_of b) (choice_not_done w now _ right h p) (same_answer w (pick_next now) _ _ left right o p h) refl
 
 -- what a network step answers:
 pub one_step :
-    (w : List ℕ) (c : Call) (a b : Step) (left right : List ℕ) → Dec (Accepted w)
+    (w : List ℕ) (c : Call) (a b : Result Stepped Refusal) (left right : List ℕ) → Dec (Accepted w)
     → Outcome w c (step_of a) left → Outcome w c (step_of b) right → a ≡ b
 one_step w c a b left right h o p = step_one a b (same_answer w c _ _ left right o p h)
 
@@ -72,13 +73,13 @@ one_refusal w c a b left right h o p = (same_refusal w c a b left right h o p).1
 
 -- Opening has one answer and leaves one block, whatever the words held
 pub one_opening :
-    (w : List ℕ) (o : Opening) (a b : Answer) (left right : List ℕ)
+    (w : List ℕ) (o : Opening) (a b : Result Unit Refusal) (left right : List ℕ)
     → Opens w o (answer_of a) left → Opens w o (answer_of b) right → (a ≡ b) × (left ≡ right)
 one_opening w o a b left right x y = let s = same_opening w o _ _ left right x y in (answer_one a b s.0, s.1)
 
 -- Packing has one answer and leaves one second block, whether the words are accepted or not
 pub one_packing :
-    (w v : List ℕ) (a b : Answer) (left right : List ℕ) → Dec (Accepted w)
+    (w v : List ℕ) (a b : Result Unit Refusal) (left right : List ℕ) → Dec (Accepted w)
     → Packs w v (answer_of a) left → Packs w v (answer_of b) right → (a ≡ b) × (left ≡ right)
 one_packing w v a b left right h x y = let s = same_packing w v _ _ left right x y h in (answer_one a b s.0, s.1)
 

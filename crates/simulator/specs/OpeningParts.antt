@@ -1,6 +1,6 @@
 -- What the parts of opening's work leave: the settings stored, the words cleared, the free records chained. Only the functions below `open` promise these;
 -- the promise of opening itself is Openings. Assumes nothing.
-use Rattle.std.specs.Prelude.{ℕ, ◌≤◌, ◌<◌, ◌≡◌, List, length, get_or, set}
+use Rattle.std.specs.Prelude.{ℕ, ◌≤◌, ◌≡◌, List, length, get_or, set}
 use Rattle.rules.specs.Opening.{Opening}
 use Rattle.layout.specs.Opened.{rate_word, record_word}
 
@@ -37,10 +37,6 @@ put_settings o w =
 -- the head and the count of the free chain, after the settings
 abbrev pub put_head : Opening → ℕ → List ℕ → List ℕ
 put_head o r w = set (set (put_settings o w) 24 1) 25 r
-
--- the words below i are 0, and the length is as it was
-abbrev pub Cleared : List ℕ → List ℕ → ℕ → Type 0
-Cleared b₀ b i = (i ≤ length b) × ((length b ≡ length b₀) × ((k : ℕ) → k < i → get_or b k 0 ≡ 0))
 
 -- the records below r are chained to the next, and no other word is set
 abbrev pub Chained : List ℕ → ℕ → List ℕ → ℕ → Type 0

@@ -1,20 +1,18 @@
 -- The promise of opening: what it is given as the rules have it, its numbers 1 and 4, and every word that it leaves. Assumes nothing.
-use Rattle.std.specs.Prelude.{ℕ, ◌≡◌, List, length}
-use Rattle.std.proofs.Math.Option.{Option, none, some}
+use Rattle.std.specs.Prelude.{ℕ, ◌≡◌, List, Option, Some, None, length}
+use Rattle.std.proofs.Math.Option.{Option as MathOption, none, some}
 use Rattle.rules.specs.State.{Fixed}
 use Rattle.rules.specs.Choice.{Answer, done, refused}
 use Rattle.rules.specs.Opening.{Opening, open_refusal}
 use Rattle.layout.specs.Opened.{opened_words}
-use Rattle.simulator.specs.declared.open.Rate.{Rate}
-use Rattle.simulator.specs.declared.open.Rate.TheVariants.{Absent, Packets}
 use Rattle.simulator.specs.declared.open.SideOpening.{SideOpening}
 use Rattle.simulator.specs.declared.open.Opening.{Opening as OpeningIn}
 
 -- ---- what is handed in
 
-abbrev pub rate_of : Rate → Option ℕ
-rate_of Absent = none
-rate_of (Packets p) = some p
+abbrev pub rate_of : Option ℕ → MathOption ℕ
+rate_of None = none
+rate_of (Some p) = some p
 
 abbrev pub fixed_of : SideOpening → Fixed
 fixed_of s = record { action_delay = s.action_delay.0; reporting_delay = s.reporting_delay.0; machines = s.machines }

@@ -7,16 +7,9 @@ ghost use Rattle.layout.specs.Opened.{opened_words, rate_word, record_word};
 ghost use Rattle.simulator.specs.Openings.{rate_of, fixed_of, opening_of, Opens};
 ghost use Rattle.simulator.specs.OpeningParts.{AllZero, put_settings};
 
-use event::answer::{Answer, Refusal};
+use event::answer::{Answer, Reason};
 use moment::Length;
 use queue_event::words;
-
-// A rate that may be absent.
-#[derive(Clone, Copy)]
-pub enum Rate {
-    Absent,
-    Packets(u64),
-}
 
 // What opening is given for a side.
 #[derive(Clone, Copy)]
@@ -26,12 +19,12 @@ pub struct SideOpening {
     pub machines: u64,
 }
 
-// What opening is given.
+// What opening is given: a rate, in packets, may be absent.
 #[derive(Clone, Copy)]
 pub struct Opening {
     pub network_delay: Length,
-    pub network_rate: Rate,
-    pub queue_rate: Rate,
+    pub network_rate: Option<u64>,
+    pub queue_rate: Option<u64>,
     pub window: Length,
     pub client: SideOpening,
     pub server: SideOpening,
@@ -39,87 +32,50 @@ pub struct Opening {
 
 // ---- number 4
 
-fn rate_fits(r: Rate) -> bool
+fn rate_fits(r: Option<u64>) -> bool
     ensures { result ≡ not (rate_outside (rate_of r)) }
 {
-    let Rate::Packets(p) = r else {
-        return true;
-    };
-    if p == 0 {
-        return false;
+    match r {
+        None => true,
+        Some(p) => p != 0 && p <= 4_294_967_295,
     }
-    p <= 4_294_967_295
 }
 
 fn side_fits(s: SideOpening) -> bool
     ensures { result ≡ not (fixed_outside (fixed_of s)) }
 {
-    if !s.action_delay.fits() {
-        return false;
-    }
-    if !s.reporting_delay.fits() {
-        return false;
-    }
-    s.machines <= 16
+    s.action_delay.fits() && s.reporting_delay.fits() && s.machines <= 16
 }
 
 // Whether every opening value is within its limits.
+#[tactic(auto, unfolding(rules::specs::Opening::outside))]
 fn fits(o: Opening) -> bool
     ensures { result ≡ not (outside (opening_of o)) }
 {
-    if !o.network_delay.fits() {
-        return false;
-    }
-    if !o.window.fits() {
-        return false;
-    }
-    let network_rate = o.network_rate;
-    if !rate_fits(network_rate) {
-        return false;
-    }
-    let queue_rate = o.queue_rate;
-    if !rate_fits(queue_rate) {
-        return false;
-    }
-    let client = o.client;
-    if !side_fits(client) {
-        return false;
-    }
-    let server = o.server;
-    side_fits(server)
+    o.network_delay.fits()
+        && o.window.fits()
+        && rate_fits(o.network_rate)
+        && rate_fits(o.queue_rate)
+        && side_fits(o.client)
+        && side_fits(o.server)
 }
 
 // ---- the words
 
 // The word of a rate: 0 for absent.
-fn rate_word(r: Rate) -> u64
+fn rate_word(r: Option<u64>) -> u64
     ensures { result ≡ rate_word (rate_of r) }
 {
-    let Rate::Packets(p) = r else {
-        return 0;
-    };
-    p
-}
-
-fn clear(block: &mut [u64])
-    ensures { (length block.new ≡ length block.old) × AllZero block.new }
-{
-    let mut i = 0;
-    while i < block.len() {
-        block[i] = 0;
-        i = i + 1;
-    }
+    r.unwrap_or(0)
 }
 
 fn write_settings(block: &mut [u64], o: Opening)
     requires { 260 ≤ length block.old }
     ensures { block.new ≡ put_settings (opening_of o) block.old }
 {
-    let network_rate = o.network_rate;
-    let queue_rate = o.queue_rate;
     block[0] = o.network_delay.0;
-    block[1] = rate_word(network_rate);
-    block[2] = rate_word(queue_rate);
+    block[1] = rate_word(o.network_rate);
+    block[2] = rate_word(o.queue_rate);
     block[3] = o.window.0;
     block[4] = o.client.action_delay.0;
     block[5] = o.server.action_delay.0;
@@ -135,10 +91,8 @@ fn chain_free(rest: &mut [u64], count: u64)
     requires fact_2 { AllZero rest.old }
     ensures { (length rest.new ≡ length rest.old) × ((k : ℕ) → get_or rest.new k 0 ≡ record_word count k) }
 {
-    let mut r = 1;
-    while r < count {
+    for r in 1..count {
         words::store(rest, r, 0, r + 1);
-        r = r + 1;
     }
 }
 
@@ -147,7 +101,7 @@ fn write_state(block: &mut [u64], o: Opening)
     requires { SizeOk (length block.old) }
     ensures { block.new ≡ opened_words (opening_of o) (length block.old) }
 {
-    clear(block);
+    block.fill(0);
     write_settings(block, o);
     let count = ((block.len() - 256) / 4) as u64;
     block[24] = 1;
@@ -160,17 +114,11 @@ pub fn open(block: &mut [u64], o: Opening) -> Answer
     ensures { Opens block.old (opening_of o) (answer_of result) block.new }
 {
     if !accept::size_ok(block.len()) {
-        return Answer::Refused(Refusal {
-            number: 1,
-            rounds: 0,
-        });
+        return Err(Reason::WrongLength.into());
     }
     if !fits(o) {
-        return Answer::Refused(Refusal {
-            number: 4,
-            rounds: 0,
-        });
+        return Err(Reason::OpeningOutside.into());
     }
     write_state(block, o);
-    Answer::Done
+    Ok(())
 }

@@ -2,30 +2,21 @@
 ghost use Rattle.event.specs.Answers.{answer_of};
 ghost use Rattle.simulator.specs.Packs.{Packs};
 
-use event::answer::{Answer, Refusal};
+use event::answer::{Answer, Reason};
 
 // Writes the packed form of the state in the lent words into a second block, whatever that held. An ended state packs too.
 pub fn pack(block: &[u64], second: &mut [u64]) -> Answer
     ensures { Packs block.now second.old (answer_of result) second.new }
 {
     if !accept::size_ok(block.len()) {
-        return Answer::Refused(Refusal {
-            number: 1,
-            rounds: 0,
-        });
+        return Err(Reason::WrongLength.into());
     }
     if second.len() != block.len() {
-        return Answer::Refused(Refusal {
-            number: 1,
-            rounds: 0,
-        });
+        return Err(Reason::WrongLength.into());
     }
     if !accept::accepted(block) {
-        return Answer::Refused(Refusal {
-            number: 2,
-            rounds: 0,
-        });
+        return Err(Reason::NotAccepted.into());
     }
     packing::pack(block, second);
-    Answer::Done
+    Ok(())
 }

@@ -5,74 +5,53 @@ ghost use Rattle.event.specs.HandedIn.{action_in, side_of};
 ghost use Rattle.layout.specs.Accepted.{Accepted};
 ghost use Rattle.layout.specs.Header.{Limited, SlotsOk};
 ghost use Rattle.queue_event.specs.Tag.{bit as bit_of};
-ghost use Rattle.layout.specs.Changes.{side_no};
-ghost use Rattle.layout.specs.Changes.{put_action};
-ghost use Rattle.simulator.specs.Numbers.{slot_in, no_room, kept_no, SlotNumber, CallNumber, Numbered};
+ghost use Rattle.layout.specs.Changes.{side_no, put_action};
+ghost use Rattle.simulator.specs.Numbers.{refused_with, slot_in, no_room, kept_no, SlotNumber, CallNumber, Numbered};
 ghost use Rattle.event.specs.Answers.{answer_of};
 ghost use Rattle.simulator.specs.Outcome.{Outcome};
 
 use crate::admit;
-use event::answer::{Answer, Refusal};
+use event::answer::{Answer, Reason};
 use event::{ActionKind, ScheduledAction};
 use moment::{Length, Moment};
-use queue::header;
+use queue::{Words, header};
 
-// The number of a machine's slot: the client's sixteen, then the server's.
-fn slot(client: bool, machine: u64) -> usize
-    requires { machine < 16 }
-    ensures { (result ≡ 16 * side_no (side_of client) + machine) × (result < 32) }
+// Row 5 of a slot.
+fn check_slot(words: &Words, client: bool, machine: u64) -> Result<(), Reason>
+    ensures { SlotNumber words.now.header.now (slot_in client machine) (refused_with result) }
 {
-    if client {
-        return machine as usize;
+    if words.of_side(header::MACHINES, client) <= machine {
+        return Err(Reason::NoMachine);
     }
-    16 + machine as usize
-}
-
-// Number 5 of a slot; 0 for none.
-fn slot_number(head: &[u64], client: bool, machine: u64) -> u64
-    requires { length head.now ≡ 256 }
-    ensures { SlotNumber head.now (slot_in client machine) result }
-{
-    if header::of_side(head, header::MACHINES, client) <= machine {
-        return 5;
-    }
-    0
+    Ok(())
 }
 
 // Whether there is no room for what the slot reserves beyond what it reserves now.
-fn no_room(head: &[u64], word: u64, size: u64) -> bool
-    requires fact_1 { length head.now ≡ 256 }
-    requires fact_2 { Limited head.now }
-    requires fact_3 { SlotsOk head.now }
-    requires fact_4 { size ≤ 4 }
-    ensures { result ≡ no_room head.now word size }
+fn no_room(words: &Words, word: u64, size: u64) -> bool
+    requires limits { Limited words.now.header.now }
+    requires slots { SlotsOk words.now.header.now }
+    requires size_small { size ≤ 4 }
+    ensures { result ≡ no_room words.now.header.now word size }
 {
-    if word != 0 {
-        return false;
-    }
-    head[25] < accept::header::reserved(head) + size
+    word == 0 && words.header[25] < accept::header::reserved(words.header) + size
 }
 
-// The number of setting a timer from 5 on; 0 for none.
-fn timer_number(head: &[u64], client: bool, machine: u64, moment: Moment) -> u64
-    requires fact_1 { length head.now ≡ 256 }
-    requires fact_2 { Limited head.now }
-    requires fact_3 { get_or head.now 16 0 ≡ 0 }
-    requires fact_4 { SlotsOk head.now }
-    ensures { CallNumber head.now (set_timer (slot_in client machine) moment.0) result }
+// The rows of setting a timer from 5 on.
+fn check_timer(words: &Words, client: bool, machine: u64, moment: Moment) -> Result<(), Reason>
+    requires limits { Limited words.now.header.now }
+    requires going { get_or words.now.header.now 16 0 ≡ 0 }
+    requires slots { SlotsOk words.now.header.now }
+    ensures { CallNumber words.now.header.now (set_timer (slot_in client machine) moment.0) (refused_with result) }
 {
-    let n = slot_number(head, client, machine);
-    if n != 0 {
-        return n;
-    }
+    check_slot(words, client, machine)?;
     if !moment.fits() {
-        return 7;
+        return Err(Reason::AboveLimit);
     }
-    let j = slot(client, machine);
-    if no_room(head, head[64 + j], 1) {
-        return 9;
+    let j = header::slot(client, machine);
+    if no_room(words, words.header[header::TIMERS + j], 1) {
+        return Err(Reason::NoRoom);
     }
-    0
+    Ok(())
 }
 
 // The duration as it is kept: only `BlockOutgoing` has one.
@@ -85,68 +64,55 @@ fn kept_duration(a: ScheduledAction) -> Length
     Length(0)
 }
 
-// The number of setting an action from 5 on; 0 for none.
-fn action_number(head: &[u64], client: bool, machine: u64, a: ScheduledAction) -> u64
-    requires fact_1 { length head.now ≡ 256 }
-    requires fact_2 { Limited head.now }
-    requires fact_3 { get_or head.now 16 0 ≡ 0 }
-    requires fact_4 { SlotsOk head.now }
-    ensures { CallNumber head.now (set_action (slot_in client machine) (action_in a)) result }
+// The rows of setting an action from 5 on.
+fn check_action(words: &Words, client: bool, machine: u64, a: ScheduledAction) -> Result<(), Reason>
+    requires limits { Limited words.now.header.now }
+    requires going { get_or words.now.header.now 16 0 ≡ 0 }
+    requires slots { SlotsOk words.now.header.now }
+    ensures { CallNumber words.now.header.now (set_action (slot_in client machine) (action_in a)) (refused_with result) }
 {
-    let n = slot_number(head, client, machine);
-    if n != 0 {
-        return n;
-    }
+    check_slot(words, client, machine)?;
     if !a.kind.known() {
-        return 6;
+        return Err(Reason::NoKind);
     }
     if !a.moment.fits() {
-        return 7;
+        return Err(Reason::AboveLimit);
     }
     let kept = kept_duration(a);
     if !kept.fits() {
-        return 7;
+        return Err(Reason::AboveLimit);
     }
-    let j = slot(client, machine);
-    if no_room(head, head[96 + 3 * j], 4) {
-        return 9;
+    let j = header::slot(client, machine);
+    if no_room(words, words.header[header::ACTIONS + 3 * j], 4) {
+        return Err(Reason::NoRoom);
     }
-    0
+    Ok(())
 }
 
-fn timer_refusal(block: &[u64], client: bool, machine: u64, moment: Moment) -> u64
+fn admit_timer(block: &[u64], client: bool, machine: u64, moment: Moment) -> Result<(), Reason>
     requires { Accepted block.now }
-    ensures { Numbered block.now (set_timer (slot_in client machine) moment.0) result }
+    ensures { Numbered block.now (set_timer (slot_in client machine) moment.0) (refused_with result) }
 {
-    let n = admit::ended(block);
-    if n != 0 {
-        return n;
-    }
-    timer_number(&block[0..256], client, machine, moment)
+    admit::going(block)?;
+    check_timer(&Words::of(block), client, machine, moment)
 }
 
-fn action_refusal(block: &[u64], client: bool, machine: u64, a: ScheduledAction) -> u64
+fn admit_action(block: &[u64], client: bool, machine: u64, a: ScheduledAction) -> Result<(), Reason>
     requires { Accepted block.now }
-    ensures { Numbered block.now (set_action (slot_in client machine) (action_in a)) result }
+    ensures { Numbered block.now (set_action (slot_in client machine) (action_in a)) (refused_with result) }
 {
-    let n = admit::ended(block);
-    if n != 0 {
-        return n;
-    }
-    action_number(&block[0..256], client, machine, a)
+    admit::going(block)?;
+    check_action(&Words::of(block), client, machine, a)
 }
 
-// The refusal of clearing, a timer and an action alike.
-fn clear_refusal(block: &[u64], client: bool, machine: u64) -> u64
+// Of clearing, a timer and an action alike.
+fn admit_clear(block: &[u64], client: bool, machine: u64) -> Result<(), Reason>
     requires { Accepted block.now }
-    ensures numbered { Numbered block.now (clear_timer (slot_in client machine)) result }
-    ensures numbered_2 { Numbered block.now (clear_action (slot_in client machine)) result }
+    ensures numbered { Numbered block.now (clear_timer (slot_in client machine)) (refused_with result) }
+    ensures numbered_2 { Numbered block.now (clear_action (slot_in client machine)) (refused_with result) }
 {
-    let n = admit::ended(block);
-    if n != 0 {
-        return n;
-    }
-    slot_number(&block[0..256], client, machine)
+    admit::going(block)?;
+    check_slot(&Words::of(block), client, machine)
 }
 
 // A timer is set in accepted words, whatever the slot holds.
@@ -154,16 +120,10 @@ pub fn set_timer_on(block: &mut [u64], client: bool, machine: u64, moment: Momen
     requires { Accepted block.old }
     ensures { Outcome block.old (set_timer (slot_in client machine) moment.0) (answer_of result) block.new }
 {
-    let n = timer_refusal(block, client, machine, moment);
-    if n != 0 {
-        return Answer::Refused(Refusal {
-            number: n,
-            rounds: 0,
-        });
-    }
-    let j = slot(client, machine);
-    block[64 + j] = moment.stored();
-    Answer::Done
+    admit_timer(block, client, machine, moment)?;
+    let j = header::slot(client, machine);
+    block[header::TIMERS + j] = moment.stored();
+    Ok(())
 }
 
 // A timer is set.
@@ -171,13 +131,7 @@ pub fn set_timer(block: &mut [u64], client: bool, machine: u64, moment: Moment) 
     ensures { Outcome block.old (set_timer (slot_in client machine) moment.0) (answer_of result) block.new }
 {
     let mut hints = [0u64; 12];
-    let n = admit::lent(block, &mut hints);
-    if n != 0 {
-        return Answer::Refused(Refusal {
-            number: n,
-            rounds: 0,
-        });
-    }
+    admit::lent(block, &mut hints)?;
     set_timer_on(block, client, machine, moment)
 }
 
@@ -186,16 +140,10 @@ pub fn clear_timer_on(block: &mut [u64], client: bool, machine: u64) -> Answer
     requires { Accepted block.old }
     ensures { Outcome block.old (clear_timer (slot_in client machine)) (answer_of result) block.new }
 {
-    let n = clear_refusal(block, client, machine);
-    if n != 0 {
-        return Answer::Refused(Refusal {
-            number: n,
-            rounds: 0,
-        });
-    }
-    let j = slot(client, machine);
-    block[64 + j] = 0;
-    Answer::Done
+    admit_clear(block, client, machine)?;
+    let j = header::slot(client, machine);
+    block[header::TIMERS + j] = 0;
+    Ok(())
 }
 
 // A timer is cleared.
@@ -203,13 +151,7 @@ pub fn clear_timer(block: &mut [u64], client: bool, machine: u64) -> Answer
     ensures { Outcome block.old (clear_timer (slot_in client machine)) (answer_of result) block.new }
 {
     let mut hints = [0u64; 12];
-    let n = admit::lent(block, &mut hints);
-    if n != 0 {
-        return Answer::Refused(Refusal {
-            number: n,
-            rounds: 0,
-        });
-    }
+    admit::lent(block, &mut hints)?;
     clear_timer_on(block, client, machine)
 }
 
@@ -224,18 +166,12 @@ fn store_action(block: &mut [u64], j: usize, word: u64, moment: Moment, duration
     block[98 + 3 * j] = duration.0;
 }
 
-fn bit(b: bool) -> u64
-    ensures { (result ≡ bit_of b) × (result ≤ 1) }
-{
-    if b { 1 } else { 0 }
-}
-
 // Kind and flags in one word.
 fn action_word(a: ScheduledAction) -> u64
     requires { a.kind.0 ≤ 2 }
     ensures { result ≡ a.kind.0 + 4 * bit_of a.bypass + 8 * bit_of a.replace }
 {
-    a.kind.0 + 4 * bit(a.bypass) + 8 * bit(a.replace)
+    a.kind.0 + 4 * u64::from(a.bypass) + 8 * u64::from(a.replace)
 }
 
 // An action is set in accepted words, whatever the slot holds.
@@ -243,18 +179,12 @@ pub fn set_action_on(block: &mut [u64], client: bool, machine: u64, a: Scheduled
     requires { Accepted block.old }
     ensures { Outcome block.old (set_action (slot_in client machine) (action_in a)) (answer_of result) block.new }
 {
-    let n = action_refusal(block, client, machine, a);
-    if n != 0 {
-        return Answer::Refused(Refusal {
-            number: n,
-            rounds: 0,
-        });
-    }
-    let j = slot(client, machine);
+    admit_action(block, client, machine, a)?;
+    let j = header::slot(client, machine);
     let word = action_word(a);
     let kept = kept_duration(a);
     store_action(block, j, word, a.moment, kept);
-    Answer::Done
+    Ok(())
 }
 
 // An action is set.
@@ -262,13 +192,7 @@ pub fn set_action(block: &mut [u64], client: bool, machine: u64, a: ScheduledAct
     ensures { Outcome block.old (set_action (slot_in client machine) (action_in a)) (answer_of result) block.new }
 {
     let mut hints = [0u64; 12];
-    let n = admit::lent(block, &mut hints);
-    if n != 0 {
-        return Answer::Refused(Refusal {
-            number: n,
-            rounds: 0,
-        });
-    }
+    admit::lent(block, &mut hints)?;
     set_action_on(block, client, machine, a)
 }
 
@@ -277,16 +201,10 @@ pub fn clear_action_on(block: &mut [u64], client: bool, machine: u64) -> Answer
     requires { Accepted block.old }
     ensures { Outcome block.old (clear_action (slot_in client machine)) (answer_of result) block.new }
 {
-    let n = clear_refusal(block, client, machine);
-    if n != 0 {
-        return Answer::Refused(Refusal {
-            number: n,
-            rounds: 0,
-        });
-    }
-    let j = slot(client, machine);
+    admit_clear(block, client, machine)?;
+    let j = header::slot(client, machine);
     store_action(block, j, 0, Moment(0), Length(0));
-    Answer::Done
+    Ok(())
 }
 
 // An action is cleared.
@@ -294,12 +212,6 @@ pub fn clear_action(block: &mut [u64], client: bool, machine: u64) -> Answer
     ensures { Outcome block.old (clear_action (slot_in client machine)) (answer_of result) block.new }
 {
     let mut hints = [0u64; 12];
-    let n = admit::lent(block, &mut hints);
-    if n != 0 {
-        return Answer::Refused(Refusal {
-            number: n,
-            rounds: 0,
-        });
-    }
+    admit::lent(block, &mut hints)?;
     clear_action_on(block, client, machine)
 }

@@ -2,27 +2,19 @@
 use Prim.Native.Nat.{max}
 use mathlib.Core.Path.{ap, ◌∙◌}
 use native.Mathlib.Omega.{arith}
-use Rattle.simulator.proofs.Admitting.{lent_accepted}
-use Rattle.calls.proofs.RowLaws.{bad_made, row_call, row_turn}
+use Rattle.moment.proofs.Order.{max_is}
+use Rattle.calls.specs.Codes.{code_no}
+use Rattle.calls.proofs.RowLaws.{bad_made, no_turn, row_call, row_turn}
 use Rattle.calls.proofs.list.make_row.Goals as goal
 
-pub returns-then-bad-ne0 : goal.returns-then-bad-ne0
-returns-then-bad-ne0 c = search bad_made
+pub returns-in-Err : goal.returns-in-Err
+returns-in-Err c = bad_made _ _ _ _ c.in-Err.reason c.args.tested _ c.requires.fact_1 c.in-Err.is c.number.ensures c.number_words.ensures
 
-pub turn-requires : goal.turn-requires
-turn-requires c = search lent_accepted
-
-pub returns-then-code-eq-TURN : goal.returns-then-code-eq-TURN
-returns-then-code-eq-TURN c = row_turn _ _ _ _ _ _ _ _ c.word-code.ensures c.if-code-eq-TURN.true (c.later.ensures ∙ ap (λ x. max x c.args.last) c.word.ensures) c.turn.ensures
-
-pub call-requires-clause-fact_1 : goal.call-requires-clause-fact_1
-call-requires-clause-fact_1 c = lent_accepted _ _ c.requires.fact_1 c.if-bad-ne0.false
-
-pub call-requires-clause-fact_2 : goal.call-requires-clause-fact_2
-call-requires-clause-fact_2 c = c.requires.fact_2
+pub returns-in-Turn : goal.returns-in-Turn
+returns-in-Turn c = row_turn _ _ _ _ _ _ _ _ c.requires.fact_3 (ap code_no c.in-Turn.is) (max_is _ _ _ c.max.ensures ∙ ap (λ x. max x c.args.last) c.word.ensures) c.turn.ensures
 
 pub call-requires-clause-fact_3 : goal.call-requires-clause-fact_3
-call-requires-clause-fact_3 c = omega (arith, c.requires.fact_3, c.word-code.ensures)
+call-requires-clause-fact_3 c = no_turn c.args.code c.in_default-code.not-Turn
 
 pub returns : goal.returns
-returns c = row_call _ _ _ _ _ _ _ c.word-code.ensures c.if-code-eq-TURN.false c.call.ensures
+returns c = row_call _ _ _ _ _ _ _ c.requires.fact_3 (λ e. omega (arith, no_turn c.args.code c.in_default-code.not-Turn)) c.call.ensures

@@ -6,8 +6,8 @@ use Rattle.candidate.proofs.first.aggregate_candidate.Goals as goal
 pub returns-then-count-eq0 : goal.returns-then-count-eq0
 returns-then-count-eq0 c = search aggregate_none
 
-pub aggregate_at-a-requires : goal.aggregate_at-a-requires
-aggregate_at-a-requires c = search aggregate_within
+pub aggregate_at-requires : goal.aggregate_at-requires
+aggregate_at-requires c = search aggregate_within
 
 pub returns : goal.returns
 returns c = search aggregate_some

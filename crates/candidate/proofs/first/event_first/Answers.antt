@@ -1,9 +1,7 @@
 -- `candidate::first::event_first` meets its contract. Assumes nothing.
-use Rattle.candidate.proofs.OrderLaws.{event_not_1, event_goes}
+use mathlib.Core.Bool.{true}
+use Rattle.candidate.proofs.OrderLaws.{event_goes}
 use Rattle.candidate.proofs.first.event_first.Goals as goal
 
-pub returns-then-not-not_later : goal.returns-then-not-not_later
-returns-then-not-not_later c = search event_not_1
-
 pub returns : goal.returns
-returns c = search event_goes
+returns c = event_goes c.args.d _ _ true true c.not_later.ensures c.not_later-2.ensures

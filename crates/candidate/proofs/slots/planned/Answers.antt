@@ -6,4 +6,4 @@ pub returns-then-word-eq0 : goal.returns-then-word-eq0
 returns-then-word-eq0 c = search planned_none
 
 pub returns : goal.returns
-returns c = search planned_some
+returns c = search (planned_some, c.if-word-eq0.false)

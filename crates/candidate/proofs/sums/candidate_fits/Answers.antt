@@ -2,26 +2,29 @@
 use Rattle.candidate.proofs.ActionSums.{good_limits, stands_end, stands_moment, stands_duration, case_aggregate, case_block, case_event, case_timer, case_action}
 use Rattle.candidate.proofs.sums.candidate_fits.Goals as goal
 
-pub block_fits-requires-clause-fact_2 : goal.block_fits-requires-clause-fact_2
-block_fits-requires-clause-fact_2 c = search good_limits
+pub aggregate_fits-requires : goal.aggregate_fits-requires
+aggregate_fits-requires c = search good_limits
 
-pub block_fits-requires-clause-fact_4 : goal.block_fits-requires-clause-fact_4
-block_fits-requires-clause-fact_4 c = search stands_end
+pub block_fits-requires-clause-limits : goal.block_fits-requires-clause-limits
+block_fits-requires-clause-limits c = search good_limits
 
-pub action_fits-requires-clause-head_len_2 : goal.action_fits-requires-clause-head_len_2
-action_fits-requires-clause-head_len_2 c = search good_limits
+pub block_fits-requires-clause-end_small : goal.block_fits-requires-clause-end_small
+block_fits-requires-clause-end_small c = search stands_end
 
-pub action_fits-requires-clause-moment_le_moment_limit_1 : goal.action_fits-requires-clause-moment_le_moment_limit_1
-action_fits-requires-clause-moment_le_moment_limit_1 c = search stands_moment
+pub action_fits-requires-clause-limits : goal.action_fits-requires-clause-limits
+action_fits-requires-clause-limits c = search good_limits
 
-pub action_fits-requires-clause-moment_le_moment_limit_2 : goal.action_fits-requires-clause-moment_le_moment_limit_2
-action_fits-requires-clause-moment_le_moment_limit_2 c = search stands_duration
+pub action_fits-requires-clause-moment_small : goal.action_fits-requires-clause-moment_small
+action_fits-requires-clause-moment_small c = search stands_moment
+
+pub action_fits-requires-clause-duration_small : goal.action_fits-requires-clause-duration_small
+action_fits-requires-clause-duration_small c = search stands_duration
 
 pub returns-in-Aggregate : goal.returns-in-Aggregate
-returns-in-Aggregate c = search case_aggregate
+returns-in-Aggregate c = search (case_aggregate, c.aggregate_fits.ensures)
 
 pub returns-in-Block : goal.returns-in-Block
-returns-in-Block c = search case_block
+returns-in-Block c = search (case_block, c.block_fits.ensures)
 
 pub returns-in-Event : goal.returns-in-Event
 returns-in-Event c = search case_event
@@ -30,4 +33,4 @@ pub returns-in-Timer : goal.returns-in-Timer
 returns-in-Timer c = search case_timer
 
 pub returns-in-Action : goal.returns-in-Action
-returns-in-Action c = search case_action
+returns-in-Action c = search (case_action, c.action_fits.ensures)

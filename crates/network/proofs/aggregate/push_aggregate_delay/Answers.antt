@@ -1,12 +1,9 @@
 -- `network::aggregate::push_aggregate_delay` meets its contract. Assumes nothing.
-use Rattle.network.proofs.AggregateLaws.{delay_none, first_may, second_may, delay_two}
+use Rattle.network.proofs.AggregateLaws.{delay_none, second_may, delay_two}
 use Rattle.network.proofs.aggregate.push_aggregate_delay.Goals as goal
 
 pub returns-in_default : goal.returns-in_default
 returns-in_default c = search delay_none
-
-pub push_aggregate-requires : goal.push_aggregate-requires
-push_aggregate-requires c = search first_may
 
 pub push_aggregate-requires-2 : goal.push_aggregate-requires-2
 push_aggregate-requires-2 c = search second_may

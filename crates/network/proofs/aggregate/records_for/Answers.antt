@@ -2,8 +2,8 @@
 use Rattle.network.proofs.DueLaws.{for_none, for_two}
 use Rattle.network.proofs.aggregate.records_for.Goals as goal
 
-pub returns-in_default : goal.returns-in_default
-returns-in_default c = search for_none
+pub returns-in-Some : goal.returns-in-Some
+returns-in-Some c = search for_two
 
-pub returns : goal.returns
-returns c = search for_two
+pub returns-in-None : goal.returns-in-None
+returns-in-None c = search for_none

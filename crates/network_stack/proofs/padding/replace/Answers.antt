@@ -1,9 +1,6 @@
 -- `network_stack::padding::replace` meets its contract. Assumes nothing.
-use Rattle.network_stack.proofs.MakeLaws.{replace_aggregate, replace_done}
+use Rattle.network_stack.proofs.MakeLaws.{replace_aggregate}
 use Rattle.network_stack.proofs.padding.replace.Goals as goal
 
 pub push_aggregate_delay-requires : goal.push_aggregate_delay-requires
 push_aggregate_delay-requires c = search replace_aggregate
-
-pub returns : goal.returns
-returns c = search replace_done

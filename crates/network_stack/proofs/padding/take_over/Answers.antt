@@ -1,9 +1,6 @@
 -- `network_stack::padding::take_over` meets its contract. Assumes nothing.
-use Rattle.network_stack.proofs.TakeLaws.{take_small, take_may, again_may, take_done}
+use Rattle.network_stack.proofs.TakeLaws.{take_may, again_may, take_done}
 use Rattle.network_stack.proofs.padding.take_over.Goals as goal
-
-pub chain-k-requires : goal.chain-k-requires
-chain-k-requires c = search take_small
 
 pub release-requires : goal.release-requires
 release-requires c = search take_may

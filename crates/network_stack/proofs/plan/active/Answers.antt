@@ -1,12 +1,9 @@
 -- `network_stack::plan::active` meets its contract. Assumes nothing.
-use Rattle.network_stack.proofs.PlanLaws.{active_sent, active_recv, active_not}
+use Rattle.network_stack.proofs.PlanLaws.{active_yes, active_not}
 use Rattle.network_stack.proofs.plan.active.Goals as goal
 
-pub returns-then-kind-eq-TUNNEL_SENT : goal.returns-then-kind-eq-TUNNEL_SENT
-returns-then-kind-eq-TUNNEL_SENT c = search active_sent
+pub returns-in-0 : goal.returns-in-0
+returns-in-0 c = search active_yes
 
-pub returns-then-kind-eq-TUNNEL_RECV : goal.returns-then-kind-eq-TUNNEL_RECV
-returns-then-kind-eq-TUNNEL_RECV c = search active_recv
-
-pub returns : goal.returns
-returns c = search active_not
+pub returns-in_default : goal.returns-in_default
+returns-in_default c = search active_not

@@ -5,5 +5,5 @@ use Rattle.packing.proofs.chain.link.Goals as goal
 pub returns-then-left-eq1 : goal.returns-then-left-eq1
 returns-then-left-eq1 c = search link_last
 
-pub returns : goal.returns
-returns c = search link_next
+pub returns-else-left-eq1 : goal.returns-else-left-eq1
+returns-else-left-eq1 c = search link_next

@@ -5,5 +5,5 @@ use Rattle.packing.proofs.header.first.Goals as goal
 pub returns-then-count-eq0 : goal.returns-then-count-eq0
 returns-then-count-eq0 c = search first_none
 
-pub returns : goal.returns
-returns c = search first_some
+pub returns-else-count-eq0 : goal.returns-else-count-eq0
+returns-else-count-eq0 c = search first_some

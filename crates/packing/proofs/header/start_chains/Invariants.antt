@@ -1,10 +1,7 @@
 -- `packing::header::start_chains` meets its contract. Assumes nothing.
-use Prim.Native.Nat.{◌-◌}
-use Rattle.packing.specs.Heads.{Starts}
+use Rattle.std.specs.Prelude.{◌-◌, ◌≡◌}
+use Rattle.packing.specs.Heads.{Starts, heads_of, counts_of}
 use Rattle.packing.proofs.header.start_chains.Given as goal
 
-abbrev pub invariant-loop-done : goal.invariant-loop-done
-invariant-loop-done l = Starts l.counts l.starts l.done l.place
-
-abbrev pub decreases-loop-done : goal.decreases-loop-done
-decreases-loop-done l = 11 - l.done
+abbrev pub invariant-loop-k : goal.invariant-loop-k
+invariant-loop-k l = (counts_of l.packed ≡ counts_of l.chains) × Starts (counts_of l.chains) (heads_of l.packed) (l.k - 1) l.place

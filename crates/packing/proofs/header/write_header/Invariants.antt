@@ -1,10 +1,6 @@
 -- `packing::header::write_header` meets its contract. Assumes nothing.
-use Prim.Native.Nat.{◌-◌}
-use Rattle.packing.specs.Heads.{HeaderTo}
+use Rattle.packing.specs.Heads.{HeaderTo, heads_of, counts_of}
 use Rattle.packing.proofs.header.write_header.Given as goal
 
 abbrev pub invariant-loop-i : goal.invariant-loop-i
-invariant-loop-i l = HeaderTo l.head l.starts l.counts l.initial.out l.out l.i
-
-abbrev pub decreases-loop-i : goal.decreases-loop-i
-decreases-loop-i l = 256 - l.i
+invariant-loop-i l = HeaderTo l.head (heads_of l.chains) (counts_of l.chains) l.initial.out l.out l.i

@@ -1,9 +1,6 @@
 -- `queue::records::push_sim` meets its contract. Assumes nothing.
-use Rattle.queue.proofs.Pushing.{place_small, push_may, push_ordered, push_done}
+use Rattle.queue.proofs.Pushing.{push_may, push_ordered, push_done}
 use Rattle.queue.proofs.records.push_sim.Goals as goal
-
-pub chain-k-requires : goal.chain-k-requires
-chain-k-requires c = search place_small
 
 pub queue_record-requires-clause-fact_1 : goal.queue_record-requires-clause-fact_1
 queue_record-requires-clause-fact_1 c = search push_may

@@ -5,5 +5,5 @@ use Rattle.queue_peek.proofs.order.earlier.Goals as goal
 pub returns-then-not_later : goal.returns-then-not_later
 returns-then-not_later c = search earlier_first
 
-pub returns : goal.returns
-returns c = search earlier_second
+pub returns-else-not_later : goal.returns-else-not_later
+returns-else-not_later c = search earlier_second

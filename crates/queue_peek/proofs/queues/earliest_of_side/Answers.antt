@@ -1,6 +1,10 @@
 -- `queue_peek::queues::earliest_of_side` meets its contract. Assumes nothing.
-use Rattle.queue_peek.proofs.OfferedLaws.{side_earliest}
+use Rattle.queue.proofs.HeadsOrder.{peeked_known}
+use Rattle.queue_peek.proofs.OfferedLaws.{side_earliest, lifted_known}
 use Rattle.queue_peek.proofs.queues.earliest_of_side.Goals as goal
+
+pub first_of-requires : goal.first_of-requires
+first_of-requires c = (search peeked_known, search lifted_known)
 
 pub returns : goal.returns
 returns c = search side_earliest

@@ -5,5 +5,5 @@ use Rattle.queue_peek.proofs.queues.peek_queue_earliest_side.Goals as goal
 pub returns-then-not_later : goal.returns-then-not_later
 returns-then-not_later c = search earliest_client
 
-pub returns : goal.returns
-returns c = search earliest_server
+pub returns-else-not_later : goal.returns-else-not_later
+returns-else-not_later c = search earliest_server

@@ -2,4 +2,4 @@
 use Rattle.round.proofs.actions.bypassable.Goals as goal
 
 pub returns : goal.returns
-returns c = c.is_bypassable.ensures _
+returns c = rw (← c.of.ensures.header, ← c.of.ensures.records) c.is_bypassable.ensures

@@ -7,17 +7,17 @@ use Rattle.round.proofs.choice.pick_next_rounds.Goals as goal
 pub loop-c-init : goal.loop-c-init
 loop-c-init c = choice_begins _ _ c.requires
 
-pub round-p-requires : goal.round-p-requires
-round-p-requires c = c.loop-c.invariant.may
+pub round-requires : goal.round-requires
+round-requires c = c.loop-c.invariant.may
 
-pub returns-in-Answered : goal.returns-in-Answered
-returns-in-Answered c = choice_ends _ _ _ _ _ _ c.loop-c.invariant c.round-p.ensures _ (search rules)
+pub returns-in-Some : goal.returns-in-Some
+returns-in-Some c = choice_ends _ _ _ _ _ _ c.loop-c.invariant c.round.ensures _ (search rules)
 
 pub overflow_add-rounds : goal.overflow_add-rounds
 overflow_add-rounds c = record { fits = rounds_fit _ _ _ c.loop-c.invariant.may }
 
 pub loop-c-smaller : goal.loop-c-smaller
-loop-c-smaller c = turn_falls _ _ _ _ _ _ c.loop-c.invariant c.round-p.ensures (search rules)
+loop-c-smaller c = turn_falls _ _ _ _ _ _ c.loop-c.invariant c.round.ensures (search rules)
 
 pub loop-c-preserved : goal.loop-c-preserved
-loop-c-preserved c = turn_goes _ _ _ _ _ _ c.loop-c.invariant c.round-p.ensures (search rules)
+loop-c-preserved c = turn_goes _ _ _ _ _ _ c.loop-c.invariant c.round.ensures (search rules)

@@ -4,4 +4,4 @@ use Rattle.event.specs.HandedIn.{side_of}
 use Rattle.round.proofs.stores.clear_timer.Goals as goal
 
 pub returns : goal.returns
-returns c = timer_cleared_lem _ c.requires.fact_1 (side_of c.args.client) _ _ c.requires.fact_2 c.slot-j.ensures.0
+returns c = timer_cleared_lem _ c.requires.fact_1 (side_of c.args.client) _ _ c.requires.fact_2 c.slot-at.ensures.0

@@ -6,9 +6,6 @@ use Rattle.simulator.proofs.open.chain_free.Goals as goal
 pub loop-r-init : goal.loop-r-init
 loop-r-init c = search chain_start
 
-pub loop-r-smaller : goal.loop-r-smaller
-loop-r-smaller c = omega arith
-
 pub loop-r-preserved : goal.loop-r-preserved
 loop-r-preserved c = search chain_turn
 

@@ -1,13 +1,13 @@
 -- `simulator::push::push_sim_on` meets its contract. Assumes nothing.
-use Rattle.simulator.proofs.Working.{outcome_n}
+use Rattle.simulator.proofs.Working.{answer_refused}
 use Rattle.simulator.proofs.PushOutcomes.{push_may, push_done}
 use Rattle.simulator.proofs.push.push_sim_on.Goals as goal
 
-pub returns-then-refused-ne0 : goal.returns-then-refused-ne0
-returns-then-refused-ne0 c = search outcome_n
+pub returns-in_err-admit_push : goal.returns-in_err-admit_push
+returns-in_err-admit_push c = search (answer_refused, c.in_err-admit_push.ensures)
 
 pub push_sim-requires : goal.push_sim-requires
-push_sim-requires c = push_may c.args.block.now c.args.e _ c.push_refusal-refused.ensures c.if-refused-ne0.false _ c.kept.ensures
+push_sim-requires c = search (push_may, c.in_ok-admit_push.ensures)
 
 pub returns : goal.returns
-returns c = push_done c.args.block.now c.args.e _ c.push_refusal-refused.ensures c.if-refused-ne0.false _ c.kept.ensures _ c.push_sim.ensures
+returns c = search (push_done, c.in_ok-admit_push.ensures)

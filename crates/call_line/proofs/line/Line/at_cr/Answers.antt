@@ -2,8 +2,8 @@
 use Rattle.call_line.specs.Steps.{cr_in_argument, cr_in_first}
 use Rattle.call_line.proofs.line.Line.at_cr.Goals as goal
 
-pub returns-then-self-eq-ARGUMENT : goal.returns-then-self-eq-ARGUMENT
-returns-then-self-eq-ARGUMENT c = search cr_in_argument
+pub returns-in-Arguments : goal.returns-in-Arguments
+returns-in-Arguments c = search cr_in_argument
 
-pub returns : goal.returns
-returns c = search cr_in_first
+pub returns-in_default : goal.returns-in_default
+returns-in_default c = search cr_in_first

@@ -1,0 +1,6 @@
+-- `accept::header::Header::in_reserve` meets its contract. Assumes nothing.
+use Rattle.accept.proofs.Slots.{client_past, server_past, reserve_all}
+use Rattle.accept.proofs.header.Header.in_reserve.Goals as goal
+
+pub returns : goal.returns
+returns c = reserve_all _ c.requires.limited (client_past _ c.requires.slots) (server_past _ c.requires.slots) _ _ _ c.blocks_room.ensures c.slots_room-client.ensures c.slots_room-server.ensures

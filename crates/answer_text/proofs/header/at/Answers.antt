@@ -1,8 +1,0 @@
--- `answer_text::header::at` meets its contract. Assumes nothing.
-use mathlib.Core.Path.{sym}
-use native.Mathlib.Omega.{arith}
-use lib.ListN.{get_or-eq_default}
-use Rattle.answer_text.proofs.header.at.Goals as goal
-
-pub returns : goal.returns
-returns c = sym (get_or-eq_default c.args.block.now 0 {n = c.args.i} (omega (arith, c.if-i-block.false)))

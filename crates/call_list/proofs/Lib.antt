@@ -1,5 +1,0 @@
-pub mod KnownLaws
-pub mod LentLaws
-pub mod ReadingLaws
-pub mod TakeLaws
-pub mod WithinLaws

@@ -1,9 +1,0 @@
--- `call_list::reading::is_digit` meets its contract. Assumes nothing.
-use Rattle.call_list.proofs.ReadingLaws.{digit_below, digit_else}
-use Rattle.call_list.proofs.reading.is_digit.Goals as goal
-
-pub returns-then-b-lt48 : goal.returns-then-b-lt48
-returns-then-b-lt48 c = search digit_below
-
-pub returns : goal.returns
-returns c = search digit_else

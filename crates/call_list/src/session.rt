@@ -1,0 +1,134 @@
+// A list of calls that is being answered: it is read byte by byte, and each line is answered where it ends.
+ghost use Rattle.std.specs.Prelude.{◌≡◌, true};
+ghost use Rattle.call_list.specs.Asking.{leaves_first};
+
+use crate::second::Second;
+use crate::state::State;
+use answer_text::answers;
+use answer_text::text::Output;
+use call_line::line::{Line, Words};
+use call_words::asked::{Asked, BadLine, Call};
+use call_words::names::Block;
+
+// What is kept from byte to byte.
+#[derive(Drop)]
+pub struct Session<'a> {
+    state: State<'a>,
+    second: Second<'a>,
+    out: Output<'a>,
+    // the line under way: its number, counted from 1, and what is known of it
+    number: u64,
+    line: Line,
+    words: Words,
+}
+
+impl<'a> Session<'a> {
+    // At the start of a list, on these two blocks. Answers wait in `out`.
+    pub fn new(state: &'a mut [u64], second: &'a mut [u64], out: &'a mut [u8]) -> Session<'a>
+        ensures same_references { (result.state.words.ghost_name ≡ state.entry.ghost_name) × (result.second.words.ghost_name ≡ second.entry.ghost_name) }
+    {
+        Session {
+            state: State::new(state),
+            second: Second::new(second),
+            out: Output::new(out),
+            number: 1,
+            line: Line::start(),
+            words: Words::new(),
+        }
+    }
+
+    // One piece of the list.
+    pub fn scan(&mut self, input: &[u8])
+        ensures same_references { (self.new.state.words.ghost_name ≡ self.old.state.words.ghost_name) × (self.new.second.words.ghost_name ≡ self.old.second.words.ghost_name) }
+    {
+        let mut line = self.line;
+        for b in input {
+            if line.is_digit(*b) {
+                line.read_digit(*b);
+            } else if *b == b'\n' {
+                self.end(line);
+                line = Line::start();
+            } else {
+                line.read(*b, &mut self.words);
+            }
+        }
+        self.line = line;
+    }
+
+    // The answers that wait are written.
+    pub fn flush(&mut self)
+        ensures same_references { (self.new.state.words.ghost_name ≡ self.old.state.words.ghost_name) × (self.new.second.words.ghost_name ≡ self.old.second.words.ghost_name) }
+    {
+        self.out.flush();
+    }
+
+    // The line ends here.
+    fn end(&mut self, line: Line)
+        ensures same_references { (self.new.state.words.ghost_name ≡ self.old.state.words.ghost_name) × (self.new.second.words.ghost_name ≡ self.old.second.words.ghost_name) }
+    {
+        match line.asked(&mut self.words) {
+            Ok(None) => {},
+            Ok(Some(asked)) => self.answered(asked),
+            Err(BadLine) => answers::bad_line(&mut self.out, self.number),
+        }
+        self.number = self.number.saturating_add(1);
+    }
+
+    // What a line asked for is done, and its answer put. A line that lists, or is about the second block alone, leaves the first block.
+    fn answered(&mut self, asked: Asked)
+        ensures leaves { leaves_first asked ≡ true → self.new.state.words.now ≡ self.old.state.words.now }
+        ensures same_references { (self.new.state.words.ghost_name ≡ self.old.state.words.ghost_name) × (self.new.second.words.ghost_name ≡ self.old.second.words.ghost_name) }
+    {
+        let answer = match asked {
+            Asked::Make(call) => return self.made(call),
+            Asked::Show => return self.state.show(&mut self.out),
+            Asked::Words(Block::First) => return self.state.list(&mut self.out),
+            Asked::Words(Block::Second) => return self.second.list(&mut self.out),
+            Asked::Open(o) => self.state.open(o),
+            Asked::Lend(Block::First, n) => {
+                self.state.lend(n);
+                Ok(())
+            },
+            Asked::Lend(Block::Second, n) => {
+                self.second.lend(n);
+                Ok(())
+            },
+            Asked::Word(Block::First, i, v) => {
+                self.state.write(i, v);
+                Ok(())
+            },
+            Asked::Word(Block::Second, i, v) => {
+                self.second.write(i, v);
+                Ok(())
+            },
+            Asked::TakeSecond => {
+                self.state.take_second(&self.second);
+                Ok(())
+            },
+            Asked::Pack => self.second.pack(&self.state),
+        };
+        answers::told(&mut self.out, answer);
+    }
+
+    // A call on the state.
+    fn made(&mut self, call: Call)
+        ensures same_references { (self.new.state.words.ghost_name ≡ self.old.state.words.ghost_name) × (self.new.second.words.ghost_name ≡ self.old.second.words.ghost_name) }
+    {
+        let answer = match call {
+            Call::Push(e) => self.state.push(e),
+            Call::SetAction(slot, a) => self.state.set_action(slot, a),
+            Call::ClearAction(slot) => self.state.clear_action(slot),
+            Call::SetTimer(slot, moment) => self.state.set_timer(slot, moment),
+            Call::ClearTimer(slot) => self.state.clear_timer(slot),
+            Call::PickNext(time) => {
+                let choice = self.state.pick_next(time);
+                return answers::told_choice(&mut self.out, choice);
+            },
+            Call::SimNetworkStack(time, e) => {
+                let step = self.state.sim_network_stack(time, e);
+                return answers::told_step(&mut self.out, step);
+            },
+        };
+        answers::told(&mut self.out, answer);
+    }
+}

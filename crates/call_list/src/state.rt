@@ -1,0 +1,200 @@
+// The first block, and the calls on the words of it that are lent.
+ghost use Rattle.std.specs.Prelude.{◌≡◌, ◌≤◌, length, slice_set, take};
+ghost use Rattle.rules.specs.Arguments.{push, set_action, clear_action, set_timer, clear_timer, pick_next, sim_network_stack};
+ghost use Rattle.event.specs.HandedIn.{event_in, action_in};
+ghost use Rattle.event.specs.Answers.{answer_of, choice_of, step_of};
+ghost use Rattle.simulator.specs.Numbers.{refused_with, slot_in, Lent};
+ghost use Rattle.simulator.specs.Openings.{opening_of};
+ghost use Rattle.call_list.specs.Lent.{OnLent, OpensLent, Takes, Known, Tested};
+ghost use Rattle.call_list.specs.Props.{Known-prop};
+
+use crate::second::Second;
+use answer_text::lists;
+use answer_text::text::Output;
+use call_words::asked::Slot;
+use event::answer::{Answer, Choice, Reason, Refusal, Step};
+use event::{ScheduledAction, SimEvent};
+use moment::Moment;
+use simulator::open::Opening;
+
+// The words that are lent at the start, of either block.
+pub(crate) const LENT: u64 = 8192;
+
+#[derive(Drop)]
+pub struct State<'a> {
+    pub words: &'a mut [u64],
+    // as many are lent to the calls
+    pub lent: usize,
+    // whether these are known to be an accepted state, so that no call needs to test them
+    pub known: bool,
+    // the last records of the chains, from call to call, of which nothing is promised
+    pub hints: [u64; 12],
+    pub ghost within: { lent ≤ length words.now },
+    pub ghost accepted: { Known known lent words.now } by { Known-prop known lent words.now },
+}
+
+// n words, or all there are.
+pub(crate) fn at_most(n: u64, all: usize) -> usize
+    ensures { result ≤ all }
+{
+    all.min(n as usize)
+}
+
+// Word i of a block becomes v, where there is one.
+pub(crate) fn set_word(block: &mut [u64], i: u64, v: u64)
+    ensures { block.new ≡ slice_set block.old i v }
+{
+    let at = i as usize;
+    if at < block.len() {
+        block[at] = v;
+    }
+}
+
+impl<'a> State<'a> {
+    // At the start of a list.
+    pub fn new(words: &'a mut [u64]) -> State<'a>
+        ensures same_reference { result.words.ghost_name ≡ words.entry.ghost_name }
+    {
+        let lent = at_most(LENT, words.len());
+        State {
+            words,
+            lent,
+            known: false,
+            hints: [0; 12],
+        }
+    }
+
+    // The state that the lent words are.
+    pub fn show(&self, out: &mut Output<'_>) {
+        lists::show(out, &self.words[..self.lent]);
+    }
+
+    // The lent words.
+    pub fn list(&self, out: &mut Output<'_>) {
+        lists::words(out, &self.words[..self.lent]);
+    }
+
+    // ---- other words are lent, or they hold others: they are not known to be accepted
+
+    // The first n words are lent, or all there are.
+    pub fn lend(&mut self, n: u64)
+        ensures words { self.new.words.now ≡ self.old.words.now }
+        ensures same_reference { self.new.words.ghost_name ≡ self.old.words.ghost_name }
+    {
+        self.known = false; // others are lent
+        self.lent = at_most(n, self.words.len());
+    }
+
+    pub fn write(&mut self, i: u64, v: u64)
+        ensures same_reference { self.new.words.ghost_name ≡ self.old.words.ghost_name }
+    {
+        self.known = false; // one holds another number
+        set_word(self.words, i, v);
+    }
+
+    pub fn open(&mut self, o: Opening) -> Answer
+        ensures opens { OpensLent self.old.lent self.old.words.now (opening_of o) (answer_of result) self.new.words.now }
+        ensures same_reference { self.new.words.ghost_name ≡ self.old.words.ghost_name }
+    {
+        self.known = false; // all are written
+        simulator::open::open(&mut self.words[..self.lent], o)
+    }
+
+    // The words of the second block over these, where there are as many; as many are lent.
+    pub fn take_second(&mut self, second: &Second<'_>)
+        ensures takes { Takes self.old.words.now second.now.words.now self.new.words.now }
+        ensures same_reference { self.new.words.ghost_name ≡ self.old.words.ghost_name }
+    {
+        self.known = false; // all are those of the second
+        self.lent = second.lent.min(self.words.len());
+        if second.words.len() == self.words.len() {
+            self.words.copy_from_slice(second.words);
+        }
+    }
+
+    // ---- the calls on accepted words, which leave such
+
+    // Number 1 or 2 of the lent words.
+    fn number(&self, hints: &mut [u64; 12]) -> Result<(), Reason>
+        ensures { Lent (take self.now.lent self.now.words.now) (refused_with result) }
+    {
+        simulator::admit::lent(&self.words[..self.lent], hints)
+    }
+
+    // The refusal of any call where the lent words have such a number. Words that are known to be accepted are not tested again.
+    fn tested(&mut self) -> Result<(), Refusal>
+        ensures tested { Tested self.new.lent self.new.words.now result }
+        ensures same { (self.new.lent ≡ self.old.lent) × (self.new.words.now ≡ self.old.words.now) }
+        ensures same_reference { self.new.words.ghost_name ≡ self.old.words.ghost_name }
+    {
+        if !self.known {
+            let mut hints = self.hints;
+            let number = self.number(&mut hints);
+            self.hints = hints;
+            number?;
+            self.known = true;
+        }
+        Ok(())
+    }
+
+    pub fn push(&mut self, e: SimEvent) -> Answer
+        ensures on_lent { OnLent self.old.lent self.old.words.now (push (event_in e)) (answer_of result) self.new.words.now }
+        ensures same_reference { self.new.words.ghost_name ≡ self.old.words.ghost_name }
+    {
+        self.tested()?;
+        simulator::push::push_sim_on(&mut self.words[..self.lent], &mut self.hints, e)
+    }
+
+    pub fn set_action(&mut self, s: Slot, a: ScheduledAction) -> Answer
+        ensures on_lent { OnLent self.old.lent self.old.words.now (set_action (slot_in s.client s.machine) (action_in a)) (answer_of result) self.new.words.now }
+        ensures same_reference { self.new.words.ghost_name ≡ self.old.words.ghost_name }
+    {
+        self.tested()?;
+        simulator::slots::set_action_on(&mut self.words[..self.lent], s.client, s.machine, a)
+    }
+
+    pub fn clear_action(&mut self, s: Slot) -> Answer
+        ensures on_lent { OnLent self.old.lent self.old.words.now (clear_action (slot_in s.client s.machine)) (answer_of result) self.new.words.now }
+        ensures same_reference { self.new.words.ghost_name ≡ self.old.words.ghost_name }
+    {
+        self.tested()?;
+        simulator::slots::clear_action_on(&mut self.words[..self.lent], s.client, s.machine)
+    }
+
+    pub fn set_timer(&mut self, s: Slot, moment: Moment) -> Answer
+        ensures on_lent { OnLent self.old.lent self.old.words.now (set_timer (slot_in s.client s.machine) moment.0) (answer_of result) self.new.words.now }
+        ensures same_reference { self.new.words.ghost_name ≡ self.old.words.ghost_name }
+    {
+        self.tested()?;
+        simulator::slots::set_timer_on(&mut self.words[..self.lent], s.client, s.machine, moment)
+    }
+
+    pub fn clear_timer(&mut self, s: Slot) -> Answer
+        ensures on_lent { OnLent self.old.lent self.old.words.now (clear_timer (slot_in s.client s.machine)) (answer_of result) self.new.words.now }
+        ensures same_reference { self.new.words.ghost_name ≡ self.old.words.ghost_name }
+    {
+        self.tested()?;
+        simulator::slots::clear_timer_on(&mut self.words[..self.lent], s.client, s.machine)
+    }
+
+    pub fn pick_next(&mut self, time: Moment) -> Choice
+        ensures on_lent { OnLent self.old.lent self.old.words.now (pick_next time.0) (choice_of result) self.new.words.now }
+        ensures same_reference { self.new.words.ghost_name ≡ self.old.words.ghost_name }
+    {
+        self.tested()?;
+        simulator::choice::pick_next_on(&mut self.words[..self.lent], &mut self.hints, time)
+    }
+
+    pub fn sim_network_stack(&mut self, time: Moment, e: SimEvent) -> Step
+        ensures on_lent { OnLent self.old.lent self.old.words.now (sim_network_stack time.0 (event_in e)) (step_of result) self.new.words.now }
+        ensures same_reference { self.new.words.ghost_name ≡ self.old.words.ghost_name }
+    {
+        self.tested()?;
+        simulator::step::sim_network_stack_on(
+            &mut self.words[..self.lent],
+            &mut self.hints,
+            e,
+            time,
+        )
+    }
+}

@@ -1,0 +1,47 @@
+-- The words of a side's block, as the state has them. Assumes nothing.
+use Prim.Native.Nat.{ℕ, zero, suc, ◌+◌, ◌-◌}
+use mathlib.Core.Path.{◌≡◌, refl, sym, ap, ◌∙◌}
+use mathlib.Core.Bool.{Bool, true, false, not}
+use mathlib.Core.List.{List}
+use mathlib.Core.Option.{none, some}
+use native.Mathlib.Omega.{arith}
+use lib.ListN.{get_or}
+use borrow.Author.Tests.{ne_eqb}
+use Rattle.std.specs.Prelude.{nat_eq, Option, Some, None, MatchOption}
+use Rattle.moment.specs.declared.Moment.{Moment}
+use Rattle.queue.specs.Views.{moment_no}
+use Rattle.rules.specs.State.{side}
+use Rattle.event.specs.HandedIn.{side_of}
+use Rattle.queue_event.specs.Tag.{flag}
+use Rattle.layout.specs.Layout.{less_one, bank, state_from}
+use Rattle.layout.specs.Changes.{side_no}
+
+pub block_held : (h rs : List ℕ) (b : Bool) → (side (state_from h rs) (side_of b)).block_end ≡ less_one (get_or h (12 + side_no (side_of b)) 0)
+unfolding state_from bank
+block_held h rs true = refl
+block_held h rs false = refl
+
+pub flag_held : (h rs : List ℕ) (b : Bool) → (side (state_from h rs) (side_of b)).block_bypassable ≡ flag (get_or h (14 + side_no (side_of b)) 0)
+unfolding state_from bank
+flag_held h rs true = refl
+flag_held h rs false = refl
+
+flag_set : (n : ℕ) → not (nat_eq n 0) ≡ flag n
+flag_set zero = refl
+flag_set (suc n) = ap not (ne_eqb (suc n) 0 (λ e. omega arith))
+
+-- a word that holds a moment as one more, or 0 for none
+pub stored_moment : (w : ℕ) (r : Option Moment) → MatchOption r (w ≡ 0) (λ m. m.0 + 1 ≡ w) → moment_no r ≡ less_one w
+stored_moment w None e = sym (ap less_one e)
+stored_moment w (Some m) e = go m.0 w e
+  where
+    go : (n k : ℕ) → n + 1 ≡ k → some n ≡ less_one k
+    go n zero q = absurd (omega (arith, q))
+    go n (suc k) q = let x : n ≡ k = omega (arith, q) in ap some x
+
+module _ (h rs : List ℕ) (b : Bool) (w : ℕ) where
+  pub its_end : (r : Option Moment) → w ≡ get_or h (12 + side_no (side_of b)) 0 → MatchOption r (w ≡ 0) (λ m. m.0 + 1 ≡ w) → moment_no r ≡ (side (state_from h rs) (side_of b)).block_end
+  its_end r e m = stored_moment w r m ∙ ap less_one e ∙ sym (block_held h rs b)
+
+  pub bypassable : w ≡ get_or h (14 + side_no (side_of b)) 0 → not (nat_eq w 0) ≡ (side (state_from h rs) (side_of b)).block_bypassable
+  bypassable e = flag_set w ∙ ap flag e ∙ sym (flag_held h rs b)

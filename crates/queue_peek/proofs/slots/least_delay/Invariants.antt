@@ -1,0 +1,9 @@
+-- `queue_peek::slots::least_delay` meets its contract. The loop keeps the least delay of the slots from m on. Assumes nothing.
+use Rattle.std.proofs.Common.{◌≡◌, ◌≤◌, drop}
+use Rattle.rules.specs.ChoiceDelays.{least_delay}
+use Rattle.queue.specs.Views.{side_in}
+use Rattle.queue_peek.specs.Decoded.{delay_of}
+use Rattle.queue_peek.proofs.slots.least_delay.Given as goal
+
+abbrev pub invariant-loop-m : goal.invariant-loop-m
+invariant-loop-m g l = (l.m ≤ 16) × (delay_of l.best ≡ least_delay l.time.0 (drop l.m (g.S.Slots.moments (side_in l.words l.client))))
