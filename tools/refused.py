@@ -24,7 +24,7 @@ ERROR = re.compile(r"^(?P<path>[^\n`:]+\.antt):(?P<line>\d+):\d+: error: (?P<sai
 # what antt says where a fact fails. Anything else is none: that a callee was not admitted, or that a proof no longer fits the changed code
 FACT = re.compile(
     r"`[^`]+`: (?:`\w+`: )?(?:no proof of `|the (?:part `[^`]*` of the )?goal does not follow"
-    r"|(?:as printed|computed as far as they go), the two (?:types|sides) |expected type `(?!goal\.)|list the missing equation)"
+    r"|(?:as printed|computed as far as they go), the two (?:types|sides|values) |expected type `(?!goal\.)|list the missing equation)"
 )
 # the files that hold a function's proof
 PROOFS = ("Answers.antt", "Invariants.antt", "Proof.antt")

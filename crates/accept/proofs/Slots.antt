@@ -201,21 +201,21 @@ module _ (h : List ℕ) where
     omega (arith, eb.1, rc.most, rs.most, l 8 (omega arith), l 9 (omega arith)),
   )
 
--- ---- the test of all slots: above the client's machine count, above the server's, the client's machines, the server's
+-- ---- the test of all slots, from a on, below e: above the client's machine count, above the server's, the client's machines, the server's
 
-module _ (h : List ℕ) (l : Limited h) where
-  pub past_client_set : (r : Bool) → Decides (EmptyIn h (get_or h 8 0) 16) r → r ≡ false → FoundAll h None
+module _ (h : List ℕ) (l : Limited h) (a e : ℕ) (r : Bool) where
+  pub past_client_set : a ≡ get_or h 8 0 → e ≡ 16 → Decides (EmptyIn h a e) r → r ≡ false → FoundAll h None
   unfolding FoundAll
-  past_client_set r d e ok = denied d e (client_past h ok)
+  past_client_set ea ee d f ok = denied d f (rw (ea, ee) (client_past h ok))
 
-  pub past_server_set : (r : Bool) → Decides (EmptyIn h (16 + get_or h 9 0) 32) r → r ≡ false → FoundAll h None
+  pub past_server_set : a ≡ 16 + get_or h 9 0 → e ≡ 32 → Decides (EmptyIn h a e) r → r ≡ false → FoundAll h None
   unfolding FoundAll
-  past_server_set r d e ok = denied d e (server_past h ok)
+  past_server_set ea ee d f ok = denied d f (rw (ea, ee) (server_past h ok))
 
-  pub client_wrong : (r : Bool) → Decides (OkIn h 0 (get_or h 8 0)) r → r ≡ false → FoundAll h None
+  pub client_wrong : a ≡ 0 → e ≡ get_or h 8 0 → Decides (OkIn h a e) r → r ≡ false → FoundAll h None
   unfolding FoundAll
-  client_wrong r d e ok = denied d e (λ j _ k. ok j (omega (arith, k, l 8 (omega arith))))
+  client_wrong ea ee d f ok = denied d f (λ j _ k. ok j (omega (arith, k, ee, l 8 (omega arith))))
 
-  pub server_wrong : (r : Bool) → Decides (OkIn h 16 (16 + get_or h 9 0)) r → r ≡ false → FoundAll h None
+  pub server_wrong : a ≡ 16 → e ≡ 16 + get_or h 9 0 → Decides (OkIn h a e) r → r ≡ false → FoundAll h None
   unfolding FoundAll
-  server_wrong r d e ok = denied d e (λ j _ k. ok j (omega (arith, k, l 9 (omega arith))))
+  server_wrong ea ee d f ok = denied d f (λ j _ k. ok j (omega (arith, k, ee, l 9 (omega arith))))

@@ -1,6 +1,7 @@
 // The header's words: what they may hold, and what is reserved for them.
 ghost use Rattle.std.specs.Prelude.{◌≡◌, Bool, ℕ, ◌+◌, ◌*◌, ◌<◌, ◌≤◌, length};
 ghost use Rattle.layout.specs.Decides.{Decides};
+ghost use Rattle.layout.specs.Records.{chain_count};
 ghost use Rattle.layout.specs.Header.{Limited, ActionOk, SlotEmpty, SlotOk, SlotsOk, block_of, timer_of, action_of, held, reserved as reserved_of};
 ghost use Rattle.accept.specs.Slots.{Zeros, EmptyIn, OkIn, RoomIn, FoundAll};
 
@@ -71,11 +72,29 @@ fn none_set(words: &[u64]) -> bool
     words.iter().fold(0, |any, x| any | *x) == 0
 }
 
-// The words of a header.
+// The slots from one number on, below another.
+#[derive(Clone, Copy)]
+struct Slots {
+    from: usize,
+    end: usize,
+    ghost ordered: { from ≤ end },
+    ghost small: { end ≤ 32 },
+}
+
+impl Slots {
+    fn between(from: usize, end: usize) -> Slots
+        requires { (from ≤ end) × (end ≤ 32) }
+        ensures from { result.from ≡ from }
+        ensures end { result.end ≡ end }
+    {
+        Slots { from, end }
+    }
+}
+
+// The words of a header, to be tested.
 #[derive(Clone, Copy)]
 pub struct Header<'a> {
-    pub words: &'a [u64],
-    pub ghost wide: { length words.now ≡ 256 },
+    pub words: &'a [u64; 256],
 }
 
 impl Header<'_> {
@@ -83,10 +102,8 @@ impl Header<'_> {
     pub fn limited(&self) -> bool
         ensures { Decides (Limited self.now.words.now) result }
     {
-        self.words
-            .iter()
-            .zip(LIMITS.iter())
-            .all(|(x, limit)| x <= limit)
+        let words = self.words;
+        words.iter().zip(LIMITS.iter()).all(|(x, limit)| x <= limit)
     }
 
     // Whether slot j holds nothing. Most slots do, and such a slot is in order whatever its side's machine count.
@@ -131,21 +148,20 @@ impl Header<'_> {
         3 * u64::from(self.words[12] != 0) + 3 * u64::from(self.words[13] != 0)
     }
 
-    // Whether the slots from `from` on, below `end`, are empty.
-    fn all_empty(&self, from: usize, end: usize) -> bool
-        requires { (from ≤ end) × (end ≤ 32) }
-        ensures { Decides (EmptyIn self.now.words.now from end) result }
+    // Whether these slots are empty.
+    fn all_empty(&self, slots: Slots) -> bool
+        ensures { Decides (EmptyIn self.now.words.now slots.from slots.end) result }
     {
-        none_set(&self.words[64 + from..64 + end])
-            && none_set(&self.words[96 + 3 * from..96 + 3 * end])
+        let words = self.words;
+        none_set(&words[64 + slots.from..64 + slots.end])
+            && none_set(&words[96 + 3 * slots.from..96 + 3 * slots.end])
     }
 
-    // Whether each slot from `from` on, below `end`, is in order.
-    fn each_slot(&self, from: usize, end: usize) -> bool
-        requires { (from ≤ end) × (end ≤ 32) }
-        ensures { Decides (OkIn self.now.words.now from end) result }
+    // Whether each of these slots is in order.
+    fn each_slot(&self, slots: Slots) -> bool
+        ensures { Decides (OkIn self.now.words.now slots.from slots.end) result }
     {
-        (from..end).all(|j| self.slot_ok(j))
+        (slots.from..slots.end).all(|j| self.slot_ok(j))
     }
 
     // The test of all slots: those of the machines one by one; those above a side's machine count have to be empty, as most slots are. Answers the records that
@@ -156,23 +172,22 @@ impl Header<'_> {
     {
         let client = self.words[8] as usize;
         let server = 16 + self.words[9] as usize;
-        if self.all_empty(client, 16)
-            && self.all_empty(server, 32)
-            && self.each_slot(0, client)
-            && self.each_slot(16, server)
+        if self.all_empty(Slots::between(client, 16))
+            && self.all_empty(Slots::between(server, 32))
+            && self.each_slot(Slots::between(0, client))
+            && self.each_slot(Slots::between(16, server))
         {
             return Some(self.in_reserve());
         }
         None
     }
 
-    // What the slots from `from` on, below `end`, keep in reserve.
-    fn slots_room(&self, from: usize, end: usize) -> u64
-        requires { (from ≤ end) × (end ≤ 32) }
-        ensures { RoomIn self.now.words.now from end result }
+    // What these slots keep in reserve.
+    fn slots_room(&self, slots: Slots) -> u64
+        ensures { RoomIn self.now.words.now slots.from slots.end result }
     {
         let mut room: u64 = 0;
-        for j in from..end {
+        for j in slots.from..slots.end {
             room += self.slot_room(j);
         }
         room
@@ -184,17 +199,16 @@ impl Header<'_> {
         requires slots { SlotsOk self.now.words.now }
         ensures { (result ≡ reserved_of self.now.words.now) × (result ≤ 166) }
     {
-        let client = self.slots_room(0, self.words[8] as usize);
-        let server = self.slots_room(16, 16 + self.words[9] as usize);
+        let client = self.slots_room(Slots::between(0, self.words[8] as usize));
+        let server = self.slots_room(Slots::between(16, 16 + self.words[9] as usize));
         self.blocks_room() + client + server
     }
 }
 
 // The records that a header keeps in reserve, where its slots are in order.
-pub fn reserved(header: &[u64]) -> u64
-    requires fact_1 { length header.now ≡ 256 }
-    requires fact_2 { Limited header.now }
-    requires fact_3 { SlotsOk header.now }
+pub fn reserved(header: &[u64; 256]) -> u64
+    requires limited { Limited header.now }
+    requires slots { SlotsOk header.now }
     ensures { (result ≡ reserved_of header.now) × (result ≤ 166) }
 {
     Header { words: header }.in_reserve()

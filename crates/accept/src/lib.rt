@@ -44,7 +44,7 @@ pub fn accepted_with(block: &[u64], hints: &mut [u64; 12]) -> bool
     if !size_ok(block.len()) {
         return false;
     }
-    let (words, rest) = block.split_at(HEADER_WORDS);
+    let (words, rest) = block.split_first_chunk::<HEADER_WORDS>().unwrap();
     good(&Header { words }, rest, hints)
 }
 

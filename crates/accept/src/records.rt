@@ -4,7 +4,9 @@ ghost use Rattle.layout.specs.Decides.{Decides};
 ghost use Rattle.layout.specs.Records.{KindOk, MachineBound, MachineOk, EventOk, AggregateOk, StampOk, RecordOk, Follows, Chain, ChainsOk, chain_count, counts_to, count_of};
 
 use crate::header::{Header, MOMENT};
+use event::Kind;
 use moment::Length;
+use queue_event::chain::Entry;
 use queue_event::{tag, words};
 
 // For the delay of an event.
@@ -19,24 +21,24 @@ fn kind_ok(place: u64, kind: u64, bypass: u64) -> bool
     ensures { Decides (KindOk place kind bypass) result }
 {
     match place {
-        1 => kind == 1,
-        4 => 1 < kind && kind <= 9,
-        _ => kind == 0 && bypass == place - 2,
+        1 => kind == Kind::NORMAL_SENT,
+        4 => Kind::NORMAL_SENT < kind && kind <= Kind::TIMER_END,
+        _ => kind == Kind::TUNNEL_SENT && bypass == place - 2,
     }
 }
 
-// How many machines an event of this kind may name, of a side with so many: kinds 2, 6, 8 and 9 have one, all others name 0.
+// How many machines an event of this kind may name, of a side with so many: four kinds have one, all others name 0.
 fn machine_bound(kind: u64, machines: u64) -> u64
     ensures { MachineBound kind machines result }
 {
     // an if for each: joined by or, or as a match, they cost more, and this is asked of every event
-    if kind == 2 {
+    if kind == Kind::PADDING_SENT {
         return machines;
     }
-    if kind == 6 {
+    if kind == Kind::BLOCKING_BEGIN {
         return machines;
     }
-    if kind > 7 {
+    if kind > Kind::BLOCKING_END {
         return machines;
     }
     1
@@ -111,18 +113,18 @@ fn follows(k: u64, last_moment: u64, last_rank: u64, moment: u64, rank: u64) -> 
     last_moment < moment || last_rank <= rank
 }
 
-// Whether `head` starts a chain of n records of number k, in order, of a side with so many machines. Each word is read once. The last record is noted in
+// Whether the records of this chain are linked from its head, of number k and in order, of a side with so many machines. Each word is read once. The last record is noted in
 // `hints`, 0 where the chain has none: nothing is promised of it, a caller that uses it tests it.
-fn chain_ok(rest: &[u64], hints: &mut [u64; 12], k: u64, machines: u64, head: u64, n: u64) -> bool
+fn chain_ok(rest: &[u64], hints: &mut [u64; 12], k: u64, machines: u64, chain: Entry) -> bool
     requires { (k < chain_count) × (length rest.now ≤ 262140) }
-    ensures { Decides (Chain rest.now k machines n 0 0 head) result }
+    ensures { Decides (Chain rest.now k machines chain.count 0 0 chain.head) result }
 {
     let last = (rest.len() / 4) as u64;
-    let mut at = head;
+    let mut at = chain.head;
     let mut moment: u64 = 0;
     let mut rank: u64 = 0;
     let mut tail: u64 = 0;
-    for _ in 0..n {
+    for _ in 0..chain.count {
         if at == 0 || last < at {
             return false;
         }
@@ -149,21 +151,15 @@ pub fn chains_ok(header: &Header, records: &[u64], hints: &mut [u64; 12]) -> boo
     requires { length records.now ≤ 262140 }
     ensures { Decides (ChainsOk header.now.words.now records.now) result }
 {
+    let words = header.words;
     let last = (records.len() / 4) as u64;
     for k in 0..CHAINS {
-        let count = header.words[25 + 2 * k];
-        if last < count {
+        let chain = Entry::of(words, k);
+        if last < chain.count {
             return false;
         }
-        let machines = header.words[8 + k / 6];
-        if !chain_ok(
-            records,
-            hints,
-            k as u64,
-            machines,
-            header.words[24 + 2 * k],
-            count,
-        ) {
+        let machines = words[8 + k / 6];
+        if !chain_ok(records, hints, k as u64, machines, chain) {
             return false;
         }
     }
@@ -175,9 +171,10 @@ pub fn counted(header: &Header) -> u64
     requires { (k : ℕ) → k < chain_count → count_of header.now.words.now k ≤ 65535 }
     ensures { result ≡ counts_to header.now.words.now chain_count }
 {
+    let words = header.words;
     let mut sum: u64 = 0;
     for k in 0..CHAINS {
-        sum += header.words[25 + 2 * k];
+        sum += Entry::of(words, k).count;
     }
     sum
 }

@@ -1,27 +1,24 @@
 // The machines' timers and actions that `show` lists: each one held, the client's first, by machine.
-use crate::header::{at, held};
 use crate::text::{Output, side};
+use moment::Moment;
+use queue::{Words, header};
 use std::fmt;
 use std::fmt::Write;
 
-const TIMERS: usize = 64;
-
-const ACTIONS: usize = 96;
-
-// The slots of both sides, and those of the client.
-const SLOTS: usize = 32;
-
-const MACHINES: usize = 16;
-
-pub(crate) fn put_timers(out: &mut Output<'_>, block: &[u64]) -> fmt::Result {
-    for slot in 0..SLOTS {
-        let word = at(block, TIMERS + slot);
-        if word != 0 {
-            let s = side(slot < MACHINES);
-            writeln!(out, "timer {s} {} {}", slot % MACHINES, held(word))?;
+// The timers of a side.
+fn put_side_timers(out: &mut Output<'_>, words: &Words, client: bool) -> fmt::Result {
+    for machine in 0..16 {
+        let at = header::TIMERS + header::slot(client, machine);
+        if let Some(t) = Moment::from_stored(words.header[at]) {
+            writeln!(out, "timer {} {machine} {}", side(client), t.0)?;
         }
     }
     Ok(())
+}
+
+pub(crate) fn put_timers(out: &mut Output<'_>, words: &Words) -> fmt::Result {
+    put_side_timers(out, words, true)?;
+    put_side_timers(out, words, false)
 }
 
 // An action's kind, moment, duration, bypass and replace.
@@ -35,14 +32,20 @@ fn put_action_words(out: &mut Output<'_>, word: u64, moment: u64, duration: u64)
     )
 }
 
-pub(crate) fn put_actions(out: &mut Output<'_>, block: &[u64]) -> fmt::Result {
-    for slot in 0..SLOTS {
-        let place = ACTIONS + 3 * slot;
-        let word = at(block, place);
+// The actions of a side.
+fn put_side_actions(out: &mut Output<'_>, words: &Words, client: bool) -> fmt::Result {
+    for machine in 0..16 {
+        let at = header::ACTIONS + 3 * header::slot(client, machine);
+        let word = words.header[at];
         if word != 0 {
-            write!(out, "action {} {}", side(slot < MACHINES), slot % MACHINES)?;
-            put_action_words(out, word, at(block, place + 1), at(block, place + 2))?;
+            write!(out, "action {} {machine}", side(client))?;
+            put_action_words(out, word, words.header[at + 1], words.header[at + 2])?;
         }
     }
     Ok(())
+}
+
+pub(crate) fn put_actions(out: &mut Output<'_>, words: &Words) -> fmt::Result {
+    put_side_actions(out, words, true)?;
+    put_side_actions(out, words, false)
 }

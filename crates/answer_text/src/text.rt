@@ -1,5 +1,5 @@
 // Text that waits in a buffer for standard output.
-ghost use Rattle.std.specs.Prelude.{◌≡◌, ◌+◌, ◌≤◌, length, if◌then◌else◌};
+ghost use Rattle.std.specs.Prelude.{◌≡◌, ◌+◌, ◌<◌, ◌≤◌, ◌++◌, length, take, drop, if◌then◌else◌};
 
 use std::fmt;
 
@@ -15,7 +15,11 @@ pub struct Output<'a> {
 }
 
 impl<'a> Output<'a> {
-    pub fn new(buffer: &'a mut [u8]) -> Output<'a> {
+    // Nothing waits in it.
+    pub fn new(buffer: &'a mut [u8]) -> Output<'a>
+        ensures used { result.used ≡ 0 }
+        ensures same_reference { result.buffer.ghost_name ≡ buffer.entry.ghost_name }
+    {
         Output { buffer, used: 0 }
     }
 
@@ -26,7 +30,12 @@ impl<'a> Output<'a> {
     }
 
     // The used bytes are written out first where there is no room, and the text itself where the whole buffer has none.
-    pub fn put(&mut self, text: &[u8]) {
+    pub fn put(&mut self, text: &[u8])
+        ensures joins { self.old.used + length text.now ≤ length self.old.buffer.now → (self.new.used ≡ self.old.used + length text.now) × (self.new.buffer.now ≡ take self.old.used self.old.buffer.now ++ (text.now ++ drop (self.old.used + length text.now) self.old.buffer.now)) }
+        ensures alone { length self.old.buffer.now < self.old.used + length text.now → length text.now ≤ length self.old.buffer.now → (self.new.used ≡ length text.now) × (self.new.buffer.now ≡ text.now ++ drop (length text.now) self.old.buffer.now) }
+        ensures long { length self.old.buffer.now < length text.now → (self.new.used ≡ 0) × (self.new.buffer.now ≡ self.old.buffer.now) }
+        ensures same_reference { self.new.buffer.ghost_name ≡ self.old.buffer.ghost_name }
+    {
         if text.len() > self.room() {
             self.flush();
         }
@@ -40,11 +49,20 @@ impl<'a> Output<'a> {
         }
     }
 
+    // The used bytes.
+    fn waiting(&self) -> &[u8]
+        ensures { result.now ≡ take self.now.used self.now.buffer.now }
+    {
+        &self.buffer[..self.used]
+    }
+
     // Writes the used bytes to standard output; none are used then. Of what is written no contract can speak.
     pub fn flush(&mut self)
-        ensures { self.new.used ≡ 0 }
+        ensures used { self.new.used ≡ 0 }
+        ensures buffer { self.new.buffer.now ≡ self.old.buffer.now }
+        ensures same_reference { self.new.buffer.ghost_name ≡ self.old.buffer.ghost_name }
     {
-        io::write_all(STDOUT_FILENO, &self.buffer[..self.used]);
+        io::write_all(STDOUT_FILENO, self.waiting());
         self.used = 0;
     }
 }

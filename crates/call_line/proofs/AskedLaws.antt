@@ -11,11 +11,13 @@ use lib.ListN.{length, take, drop, length-map}
 use lib.Seq.{take_all}
 use borrow.Author.Tests.{eqb-true, eq-eqb, leb-true, leb-false}
 use Rattle.call_words.specs.Names.{named}
-use Rattle.std.specs.Prelude.{None}
-use Rattle.call_words.specs.Asked.{Asks, passed_over, bad, understood}
+use Rattle.std.specs.Prelude.{Option, None, Result, Ok, Err, is_err}
+use Rattle.call_words.specs.Asked.{Asks, passed_over, bad, understood, asks_of, asked_or_bad}
+use Rattle.call_words.specs.declared.asked.Asked.{Asked}
+use Rattle.call_words.specs.declared.asked.BadLine.{BadLine}
 use Rattle.call_line.specs.Words.{Line, parted, read, without_cr, words_of}
 use Rattle.call_line.specs.Numerals.{argument_of}
-use Rattle.call_line.specs.Lines.{is_comment, asked_by_words, asked_by}
+use Rattle.call_line.specs.Lines.{is_comment, asked_by_words, asked_by, asks_of_line}
 use Rattle.call_line.specs.Held.{has_cr, Spelt, Ended, InFirst, InArguments, is_comment_line, At, in_first, in_arguments, Held, comment, plain, first_cr, argument_cr, Sized, AsksFor}
 use Rattle.call_line.specs.Steps.{WithoutCR, Parts, passes_over, end_in_argument, end_none}
 use Rattle.call_line.specs.declared.line.Line.{Line as Kept}
@@ -177,6 +179,14 @@ asks_kept k t r name kept name' kept' passed a is not-passed without parts stays
     never d =
         let z : ◌≡◌ {A = ℕ} 0 1 = cc in
         omega arith
+
+-- what the words ask for is what the line does, and a bad line is one
+pub asked_ok : (x : Result Asked BadLine) (v : Asked) (a : Asks) → x ≡ Ok v → asked_or_bad x ≡ a → asks_of v ≡ a
+asked_ok x v a is e = sym (ap asked_or_bad is) ∙ e
+
+pub asked_err : (x : Result Asked BadLine) (b : BadLine) (r : Result (Option Asked) BadLine) (a : Asks) → x ≡ Err b → asked_or_bad x ≡ a → is_err r ≡ true → asks_of_line r ≡ a
+asked_err x b (Ok o) a is e refused = cc
+asked_err x b (Err d) a is e refused = sym (ap asked_or_bad is) ∙ e
 
 -- so many words, or all there are
 pub take_cut : {A : Type 0} (s : List A) (n m : ℕ) → length s ≡ m → take (min n m - 0) (drop 0 s) ≡ take n s

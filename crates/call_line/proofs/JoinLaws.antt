@@ -24,11 +24,6 @@ use Rattle.call_line.proofs.NumeralLaws.{number_with, numeric_word, no_word, som
 digit_value : (b : ℕ) → is_digit b ≡ true → value_of (b ∷ []) ≡ b - 48
 digit_value b digit = sym (value_digit b (digit_low b digit) (digit_high b digit))
 
-pub digit_small : (b d : ℕ) → is_digit b ≡ true → d ≡ value_of (b ∷ []) → d ≤ 9
-digit_small b d digit e =
-    let value : d ≡ b - 48 = e ∙ digit_value b digit in
-    omega (arith, digit_low b digit, digit_high b digit)
-
 was_large : (n d : ℕ) → None ≡ longer_of n d → leb (n * 10 + d) 18446744073709551615 ≡ false
 was_large n d e = by (leb (n * 10 + d) 18446744073709551615) e
   where

@@ -56,16 +56,6 @@ joined_arguments l k b r name kept byte joins i =
       number = (joins.word l.word i.form i.number).1;
     })
 
-pub takes_byte :
-    (k : Kept) (name : List ℕ) (kept : List Argument) (b : ℕ) (r : Kept) (test : Bool) → test ≡ is_space b → test ≡ false → k.place ≡ Arguments → Joins k b r
-    → Takes k name kept b r name kept
-takes_byte k name kept b r test is byte place joins = λ l sized here. (
-  sized,
-  in_line
-      (in_arguments (joins.place ∙ place)
-      (joined_arguments l k b r name kept (sym is ∙ byte) joins (at_arguments l k name kept here place))),
-)
-
 -- ---- a letter of the first word
 
 pub spells_kept :

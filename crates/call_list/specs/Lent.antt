@@ -1,5 +1,5 @@
 -- The promise of a call on the first n of the words: "from here on the calls are lent the first N words". Assumes nothing.
-use Rattle.std.specs.Prelude.{ℕ, ◌≡◌, Bool, true, List, Result, Ok, Err, length, take, drop}
+use Rattle.std.specs.Prelude.{ℕ, ◌≡◌, Bool, true, List, Result, Ok, Err, length, take, drop, leb, if◌then◌else◌}
 use Rattle.rules.specs.Choice.{Answer}
 use Rattle.rules.specs.Arguments.{Call}
 use Rattle.rules.specs.Opening.{Opening}
@@ -9,6 +9,10 @@ use Rattle.layout.specs.Accepted.{Accepted}
 use Rattle.simulator.specs.Outcome.{Outcome}
 use Rattle.simulator.specs.Openings.{Opens}
 use Rattle.simulator.specs.Packs.{Packs}
+
+-- n words are lent, or all there are
+abbrev pub at_most : ℕ → ℕ → ℕ
+at_most n all = if leb n all then n else all
 
 -- the call c on the first n of the words w: the promise of every call on these, and the words after them as they were
 pub record OnLent (n : ℕ) (w : List ℕ) (c : Call) (a : Answer) (left : List ℕ) : Type 0 where

@@ -1,6 +1,8 @@
 // A list of calls that is being answered: it is read byte by byte, and each line is answered where it ends.
-ghost use Rattle.std.specs.Prelude.{◌≡◌, true};
+ghost use Rattle.std.specs.Prelude.{◌≡◌, true, false, length};
+ghost use Rattle.call_line.specs.Held.{start_line};
 ghost use Rattle.call_list.specs.Asking.{leaves_first};
+ghost use Rattle.call_list.specs.Lent.{at_most};
 
 use crate::second::Second;
 use crate::state::State;
@@ -9,6 +11,8 @@ use answer_text::text::Output;
 use call_line::line::{Line, Words};
 use call_words::asked::{Asked, BadLine, Call};
 use call_words::names::Block;
+use event::ScheduledAction;
+use simulator::slots::Timer;
 
 // What is kept from byte to byte.
 #[derive(Drop)]
@@ -25,6 +29,11 @@ pub struct Session<'a> {
 impl<'a> Session<'a> {
     // At the start of a list, on these two blocks. Answers wait in `out`.
     pub fn new(state: &'a mut [u64], second: &'a mut [u64], out: &'a mut [u8]) -> Session<'a>
+        ensures known { result.state.known ≡ false }
+        ensures used { result.out.used ≡ 0 }
+        ensures line { (result.line ≡ start_line) × (result.number ≡ 1) }
+        ensures words { (result.state.words.now ≡ state.entry.now) × (result.second.words.now ≡ second.entry.now) }
+        ensures lent { (result.state.lent ≡ at_most 8192 (length state.entry.now)) × (result.second.lent ≡ at_most 8192 (length second.entry.now)) }
         ensures same_references { (result.state.words.ghost_name ≡ state.entry.ghost_name) × (result.second.words.ghost_name ≡ second.entry.ghost_name) }
     {
         Session {
@@ -57,6 +66,8 @@ impl<'a> Session<'a> {
 
     // The answers that wait are written.
     pub fn flush(&mut self)
+        ensures used { self.new.out.used ≡ 0 }
+        ensures words { (self.new.state.words.now ≡ self.old.state.words.now) × (self.new.second.words.now ≡ self.old.second.words.now) }
         ensures same_references { (self.new.state.words.ghost_name ≡ self.old.state.words.ghost_name) × (self.new.second.words.ghost_name ≡ self.old.second.words.ghost_name) }
     {
         self.out.flush();
@@ -116,10 +127,10 @@ impl<'a> Session<'a> {
     {
         let answer = match call {
             Call::Push(e) => self.state.push(e),
-            Call::SetAction(slot, a) => self.state.set_action(slot, a),
-            Call::ClearAction(slot) => self.state.clear_action(slot),
-            Call::SetTimer(slot, moment) => self.state.set_timer(slot, moment),
-            Call::ClearTimer(slot) => self.state.clear_timer(slot),
+            Call::SetAction(slot, action) => self.state.set(slot, action),
+            Call::ClearAction(slot) => self.state.clear::<ScheduledAction>(slot),
+            Call::SetTimer(slot, moment) => self.state.set(slot, Timer(moment)),
+            Call::ClearTimer(slot) => self.state.clear::<Timer>(slot),
             Call::PickNext(time) => {
                 let choice = self.state.pick_next(time);
                 return answers::told_choice(&mut self.out, choice);

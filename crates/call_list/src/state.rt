@@ -1,21 +1,22 @@
 // The first block, and the calls on the words of it that are lent.
-ghost use Rattle.std.specs.Prelude.{◌≡◌, ◌≤◌, length, slice_set, take};
-ghost use Rattle.rules.specs.Arguments.{push, set_action, clear_action, set_timer, clear_timer, pick_next, sim_network_stack};
-ghost use Rattle.event.specs.HandedIn.{event_in, action_in};
+ghost use Rattle.std.specs.Prelude.{◌≡◌, ◌≤◌, false, length, slice_set, take};
+ghost use Rattle.rules.specs.Arguments.{push, pick_next, sim_network_stack};
+ghost use Rattle.event.specs.HandedIn.{event_in};
 ghost use Rattle.event.specs.Answers.{answer_of, choice_of, step_of};
 ghost use Rattle.simulator.specs.Numbers.{refused_with, slot_in, Lent};
 ghost use Rattle.simulator.specs.Openings.{opening_of};
-ghost use Rattle.call_list.specs.Lent.{OnLent, OpensLent, Takes, Known, Tested};
+ghost use Rattle.call_list.specs.Lent.{OnLent, OpensLent, Takes, Known, Tested, at_most};
 ghost use Rattle.call_list.specs.Props.{Known-prop};
 
 use crate::second::Second;
 use answer_text::lists;
 use answer_text::text::Output;
-use call_words::asked::Slot;
+use event::SimEvent;
 use event::answer::{Answer, Choice, Reason, Refusal, Step};
-use event::{ScheduledAction, SimEvent};
 use moment::Moment;
 use simulator::open::Opening;
+use simulator::slots;
+use simulator::slots::{Held, Slot};
 
 // The words that are lent at the start, of either block.
 pub(crate) const LENT: u64 = 8192;
@@ -35,7 +36,7 @@ pub struct State<'a> {
 
 // n words, or all there are.
 pub(crate) fn at_most(n: u64, all: usize) -> usize
-    ensures { result ≤ all }
+    ensures { result ≡ at_most n all }
 {
     all.min(n as usize)
 }
@@ -53,6 +54,9 @@ pub(crate) fn set_word(block: &mut [u64], i: u64, v: u64)
 impl<'a> State<'a> {
     // At the start of a list.
     pub fn new(words: &'a mut [u64]) -> State<'a>
+        ensures known { result.known ≡ false }
+        ensures words { result.words.now ≡ words.entry.now }
+        ensures lent { result.lent ≡ at_most 8192 (length words.entry.now) }
         ensures same_reference { result.words.ghost_name ≡ words.entry.ghost_name }
     {
         let lent = at_most(LENT, words.len());
@@ -64,12 +68,11 @@ impl<'a> State<'a> {
         }
     }
 
-    // The state that the lent words are.
+    // The state that the lent words are, and the words, are put. Of what is printed no contract can speak, and `&self` says that the rest stays.
     pub fn show(&self, out: &mut Output<'_>) {
         lists::show(out, &self.words[..self.lent]);
     }
 
-    // The lent words.
     pub fn list(&self, out: &mut Output<'_>) {
         lists::words(out, &self.words[..self.lent]);
     }
@@ -78,6 +81,7 @@ impl<'a> State<'a> {
 
     // The first n words are lent, or all there are.
     pub fn lend(&mut self, n: u64)
+        ensures lent { self.new.lent ≡ at_most n (length self.old.words.now) }
         ensures words { self.new.words.now ≡ self.old.words.now }
         ensures same_reference { self.new.words.ghost_name ≡ self.old.words.ghost_name }
     {
@@ -85,7 +89,10 @@ impl<'a> State<'a> {
         self.lent = at_most(n, self.words.len());
     }
 
+    // Word i becomes v, where there is one.
     pub fn write(&mut self, i: u64, v: u64)
+        ensures words { self.new.words.now ≡ slice_set self.old.words.now i v }
+        ensures lent { self.new.lent ≡ self.old.lent }
         ensures same_reference { self.new.words.ghost_name ≡ self.old.words.ghost_name }
     {
         self.known = false; // one holds another number
@@ -145,36 +152,20 @@ impl<'a> State<'a> {
         simulator::push::push_sim_on(&mut self.words[..self.lent], &mut self.hints, e)
     }
 
-    pub fn set_action(&mut self, s: Slot, a: ScheduledAction) -> Answer
-        ensures on_lent { OnLent self.old.lent self.old.words.now (set_action (slot_in s.client s.machine) (action_in a)) (answer_of result) self.new.words.now }
+    pub fn set<H: Held>(&mut self, slot: Slot, held: H) -> Answer
+        ensures on_lent { OnLent self.old.lent self.old.words.now (H.setting (slot_in slot.client slot.machine) held) (answer_of result) self.new.words.now }
         ensures same_reference { self.new.words.ghost_name ≡ self.old.words.ghost_name }
     {
         self.tested()?;
-        simulator::slots::set_action_on(&mut self.words[..self.lent], s.client, s.machine, a)
+        slots::set_on(&mut self.words[..self.lent], slot, held)
     }
 
-    pub fn clear_action(&mut self, s: Slot) -> Answer
-        ensures on_lent { OnLent self.old.lent self.old.words.now (clear_action (slot_in s.client s.machine)) (answer_of result) self.new.words.now }
+    pub fn clear<H: Held>(&mut self, slot: Slot) -> Answer
+        ensures on_lent { OnLent self.old.lent self.old.words.now (H.clearing (slot_in slot.client slot.machine)) (answer_of result) self.new.words.now }
         ensures same_reference { self.new.words.ghost_name ≡ self.old.words.ghost_name }
     {
         self.tested()?;
-        simulator::slots::clear_action_on(&mut self.words[..self.lent], s.client, s.machine)
-    }
-
-    pub fn set_timer(&mut self, s: Slot, moment: Moment) -> Answer
-        ensures on_lent { OnLent self.old.lent self.old.words.now (set_timer (slot_in s.client s.machine) moment.0) (answer_of result) self.new.words.now }
-        ensures same_reference { self.new.words.ghost_name ≡ self.old.words.ghost_name }
-    {
-        self.tested()?;
-        simulator::slots::set_timer_on(&mut self.words[..self.lent], s.client, s.machine, moment)
-    }
-
-    pub fn clear_timer(&mut self, s: Slot) -> Answer
-        ensures on_lent { OnLent self.old.lent self.old.words.now (clear_timer (slot_in s.client s.machine)) (answer_of result) self.new.words.now }
-        ensures same_reference { self.new.words.ghost_name ≡ self.old.words.ghost_name }
-    {
-        self.tested()?;
-        simulator::slots::clear_timer_on(&mut self.words[..self.lent], s.client, s.machine)
+        slots::clear_on::<H>(&mut self.words[..self.lent], slot)
     }
 
     pub fn pick_next(&mut self, time: Moment) -> Choice

@@ -12,16 +12,10 @@ use crate::{names, shapes};
 use event::{ActionKind, Kind, ScheduledAction, SimEvent};
 use moment::{Length, Moment};
 use simulator::open::{Opening, SideOpening};
+use simulator::slots::Slot;
 
 // The words of each of the program's two blocks.
 pub const WORDS: u64 = 8192;
-
-// A machine's place for an action and a timer.
-#[derive(Clone, Copy)]
-pub struct Slot {
-    pub client: bool,
-    pub machine: u64,
-}
 
 // A call on the state, with its arguments.
 #[derive(Clone, Copy)]

@@ -37,6 +37,7 @@ fn spells(letters: &[u8], text: &[u8]) -> bool
 }
 
 // The line that these letters name, where they name one.
+// Four functions pass on to one another, as the four parts of the definition do: one would have seventeen arms.
 #[tactic(auto, unfolding(crate::specs::Names::named))]
 pub(crate) fn named(letters: &[u8]) -> Option<Name>
     ensures { result ≡ name_of letters.now }

@@ -64,6 +64,7 @@ fn shaped(arguments: &[Argument], shape: &[u8]) -> bool
 }
 
 // Whether these are arguments of the line.
+// One letter stands for each argument, so that a shape fits into its arm: as values of an enum each would be a list of names.
 pub(crate) fn arguments_fit(name: Name, arguments: &[Argument]) -> bool
     ensures { result ≡ fits arguments.now (shape_of name) }
 {

@@ -1,28 +1,29 @@
 -- The laws of one row: what a call's answer is in words, which call a code names, and a turn. Assumes nothing.
-use Prim.Native.Nat.{ℕ, ◌≤◌, ◌<◌, max}
+use Prim.Native.Nat.{ℕ, zero, suc, ◌*◌, ◌≤◌, ◌<◌, max}
 use mathlib.Core.Path.{◌≡◌, refl, sym, ap, subst, ◌∙◌}
 use mathlib.Core.Bool.{Bool, true, false}
 use mathlib.Core.List.{List, [], ◌∷◌, ◌++◌}
-use mathlib.Core.Option.{Option, none, some}
+use mathlib.Core.Option.{Option, some}
 use native.Mathlib.Omega.{arith}
 use lib.Dec.{ltb}
-use lib.ListN.{get_or}
+use lib.ListN.{get_or, take, drop}
+use lib.Seq.{drop-drop, get_or-take, get_or-drop}
+use Rattle.std.specs.Simd.{first_chunks}
 use borrow.Author.Tests.{eq-eqb, ne_eqb, ltb-true, ltb-false}
 use Rattle.std.specs.Prelude.{Option as CodeOption, Some, None, Result, Ok, Err, if◌then◌else◌}
 use Rattle.rules.specs.State.{Event}
-use Rattle.rules.specs.Choice.{Answer, done, event, nothing_left, step_made, refused}
-use Rattle.rules.specs.Arguments.{Call, EventIn, ActionIn, push, set_action, clear_action, set_timer, clear_timer, pick_next, sim_network_stack}
-use Rattle.event.specs.Answers.{answer_of, choice_of, chosen_as, found_as, number_of, step_of}
+use Rattle.rules.specs.Choice.{Answer, refused}
+use Rattle.rules.specs.Arguments.{Call, ActionIn, push, set_action, clear_action, set_timer, clear_timer, pick_next, sim_network_stack}
+use Rattle.event.specs.Answers.{choice_of, chosen_as, found_as, number_of, step_of}
 use Rattle.event.specs.HandedIn.{side_of, event_in}
 use Rattle.event.specs.Values.{known_event}
 use Rattle.event.specs.declared.answer.Reason.{Reason}
-use Rattle.rules.specs.ChoiceRound.{Slot}
 use Rattle.event.specs.declared.answer.Chosen.{Chosen}
 use Rattle.event.specs.declared.answer.Refusal.{Refusal}
 use Rattle.event.specs.declared.answer.Stepped.{Stepped}
 use Rattle.event.specs.declared.SimEvent.{SimEvent}
 use Rattle.layout.specs.Accepted.{Accepted}
-use Rattle.simulator.specs.Numbers.{refused_with, Lent, slot_in}
+use Rattle.simulator.specs.Numbers.{refused_with, Lent}
 use Rattle.simulator.specs.Outcome.{Outcome}
 use Rattle.simulator.specs.Demand.{Made}
 use Rattle.simulator.proofs.Admitting.{lent_n}
@@ -30,175 +31,53 @@ use Rattle.simulator.proofs.Working.{outcome_n}
 use Rattle.simulator.proofs.OneOutcome.{choice_not_done}
 use Rattle.event.proofs.Numbers.{event_known, event_unknown}
 use Rattle.layout.proofs.Order.{rank_kind}
-use Rattle.calls.specs.Told.{is_set, event_for, action_for, slot_for, number_in, code_in}
+use Rattle.calls.specs.Told.{event_for, action_for, slot_for, number_in}
 use Rattle.calls.specs.Answers.{choice_words, step_words}
 use Rattle.calls.specs.Rows.{code_at, word_at, is_row, is_turn, call_for, step_after, row_calls, zeros, answer_words, turn_words}
-use Rattle.calls.specs.Codes.{code_no, ReadAs}
+use Rattle.calls.specs.Codes.{call_no, code_no, word_in, event_from, IsRow}
 use Rattle.calls.specs.declared.row.Code.{Code}
-use Rattle.calls.specs.declared.row.Code.TheVariants.{Push, SetAction, ClearAction, SetTimer, ClearTimer, PickNext, SimNetworkStack, Turn}
+use Rattle.calls.specs.declared.row.Code.TheVariants.{Call as Named, Turn}
+use Rattle.calls.specs.declared.row.CallCode.{CallCode}
+use Rattle.calls.specs.declared.row.CallCode.TheVariants.{Push, SetAction, ClearAction, SetTimer, ClearTimer, PickNext, SimNetworkStack}
 use Rattle.calls.specs.Listed.{first_answer, RowMade}
 use Rattle.calls.specs.Made.{CallMade, TurnMade}
-use Rattle.calls.proofs.Telling.{answer_code, choice_code, slot_is, step_code}
 
--- ---- answers as words
+-- ---- the call that a row names
 
--- ten words, one by one, before others
-spread : (a : Answer) (l : List ℕ) → (get_or (choice_words a) 0 0 ∷ get_or (choice_words a) 1 0 ∷ get_or (choice_words a) 2 0 ∷ get_or (choice_words a) 3 0 ∷ get_or (choice_words a) 4 0 ∷ get_or (choice_words a) 5 0 ∷ get_or (choice_words a) 6 0 ∷ get_or (choice_words a) 7 0 ∷ get_or (choice_words a) 8 0 ∷ get_or (choice_words a) 9 0 ∷ l) ≡ choice_words a ++ l
-spread done l = refl
-spread (event e k) l = refl
-spread (nothing_left k) l = refl
-spread (step_made b f) l = refl
-spread (refused m k) l = refl
+module _ (w : List ℕ) (words left ws : List ℕ) (code : CallCode) where
+  code_is : (c : CallCode) → code ≡ c → CallMade w (call_for (call_no c) (word_in ws)) words left → CallMade w (call_for (call_no code) (word_in ws)) words left
+  code_is c e r = subst (λ (x : CallCode). CallMade w (call_for (call_no x) (word_in ws)) words left) (sym e) r
 
-abbrev laid : ℕ → List ℕ → List ℕ → List ℕ
-laid n w l = n ∷ get_or w 0 0 ∷ get_or w 1 0 ∷ get_or w 2 0 ∷ get_or w 3 0 ∷ get_or w 4 0 ∷ get_or w 5 0 ∷ get_or w 6 0 ∷ get_or w 7 0 ∷ get_or w 8 0 ∷ get_or w 9 0 ∷ l
+  -- a call whose answer is a number alone
+  module _ (a : Answer) (is : words ≡ number_in a ∷ zeros 15) where
+    pub code_0 : code ≡ Push → Outcome w (push (event_from ws 1)) a left → CallMade w (call_for (call_no code) (word_in ws)) words left
+    unfolding call_for answer_words
+    code_0 e o = code_is Push e (record { answer = a; outcome = o; is = is })
 
-laid_out : (a : Answer) (n : ℕ) (w l : List ℕ) (m : ℕ) → n ≡ m → w ≡ choice_words a → laid n w l ≡ m ∷ choice_words a ++ l
-laid_out a n w l m en ew = (λ d. laid (en d) (ew d) l) ∙ ap (λ (x : List ℕ). m ∷ x) (spread a l)
+    pub code_1 : code ≡ SetAction → (r : ActionIn) → r ≡ action_for (word_in ws 3) (word_in ws 4) (word_in ws 5) (word_in ws 6) (word_in ws 7) → Outcome w (set_action (slot_for (word_in ws 1) (word_in ws 2)) r) a left → CallMade w (call_for (call_no code) (word_in ws)) words left
+    unfolding call_for answer_words
+    code_1 e r er o = code_is SetAction e (record { answer = a; outcome = subst (λ (x : ActionIn). Outcome w (set_action (slot_for (word_in ws 1) (word_in ws 2)) x) a left) er o; is = is })
 
-pub choice_laid :
-    (a : Result Chosen Refusal) (n : ℕ) (w : List ℕ) → n ≡ code_in a → w ≡ choice_words (choice_of a)
-    → laid n w (zeros 5) ≡ number_in (choice_of a) ∷ choice_words (choice_of a) ++ zeros 5
-choice_laid a n w en ew = laid_out (choice_of a) n w (zeros 5) (number_in (choice_of a)) (en ∙ choice_code a) ew
+    pub code_2 : code ≡ ClearAction → Outcome w (clear_action (slot_for (word_in ws 1) (word_in ws 2))) a left → CallMade w (call_for (call_no code) (word_in ws)) words left
+    unfolding call_for answer_words
+    code_2 e o = code_is ClearAction e (record { answer = a; outcome = o; is = is })
 
--- three words, one by one, before others
-abbrev three : List ℕ → List ℕ → List ℕ
-three s l = get_or s 0 0 ∷ get_or s 1 0 ∷ get_or s 2 0 ∷ l
+    pub code_3 : code ≡ SetTimer → (t : ℕ) → t ≡ word_in ws 3 → Outcome w (set_timer (slot_for (word_in ws 1) (word_in ws 2)) t) a left → CallMade w (call_for (call_no code) (word_in ws)) words left
+    unfolding call_for answer_words
+    code_3 e t et o = code_is SetTimer e (record { answer = a; outcome = subst (λ (x : ℕ). Outcome w (set_timer (slot_for (word_in ws 1) (word_in ws 2)) x) a left) et o; is = is })
 
-three_words : (b : Answer) (l : List ℕ) → three (step_words b) l ≡ step_words b ++ l
-three_words done l = refl
-three_words (event e k) l = refl
-three_words (nothing_left k) l = refl
-three_words (step_made a none) l = refl
-three_words (step_made a (some m)) l = refl
-three_words (refused n k) l = refl
+    pub code_4 : code ≡ ClearTimer → Outcome w (clear_timer (slot_for (word_in ws 1) (word_in ws 2))) a left → CallMade w (call_for (call_no code) (word_in ws)) words left
+    unfolding call_for answer_words
+    code_4 e o = code_is ClearTimer e (record { answer = a; outcome = o; is = is })
 
-pub step_laid :
-    (b : Result Stepped Refusal) (n : ℕ) (w : List ℕ) → n ≡ code_in b → w ≡ step_words (step_of b)
-    → (n ∷ three w (zeros 12)) ≡ number_in (step_of b) ∷ step_words (step_of b) ++ zeros 12
-step_laid b n w en ew =
-    (λ d. (en ∙ step_code b) d ∷ three (ew d) (zeros 12)) ∙ ap (λ (l : List ℕ). number_in (step_of b) ∷ l) (three_words (step_of b) (zeros 12))
+  module _ (a : Answer) where
+    pub code_5 : code ≡ PickNext → words ≡ number_in a ∷ choice_words a ++ zeros 5 → Outcome w (pick_next (word_in ws 1)) a left → CallMade w (call_for (call_no code) (word_in ws)) words left
+    unfolding call_for answer_words
+    code_5 e is o = code_is PickNext e (record { answer = a; outcome = o; is = is })
 
-pub turn_laid :
-    (a : Answer) (b : Result Stepped Refusal) (n : ℕ) (w s : List ℕ) → n ≡ code_in b → w ≡ choice_words a → s ≡ step_words (step_of b)
-    → laid n w (three s (zeros 2)) ≡ turn_words a (step_of b)
-turn_laid a b n w s en ew es =
-    laid_out a n w (three s (zeros 2)) (number_in (step_of b)) (en ∙ step_code b) ew
-    ∙ ap (λ (x : List ℕ). number_in (step_of b) ∷ choice_words a ++ x) (ap (λ (x : List ℕ). three x (zeros 2)) es ∙ three_words (step_of b) (zeros 2))
-
--- ---- a call of a row
-
--- a call whose answer is a number alone
-abbrev plain : Call → Type 0
-plain c = (a : Answer) → (number_in a ∷ zeros 15) ≡ answer_words c a
-
-plain_made :
-    (w : List ℕ) (c d : Call) (a : Result Unit Refusal) (left : List ℕ) (n : ℕ) (words : List ℕ) → c ≡ d → plain d → Outcome w c (answer_of a) left
-    → n ≡ code_in a → words ≡ n ∷ zeros 15 → CallMade w d words left
-plain_made w c d a left n words e p o en ew =
-    record { answer = answer_of a; outcome = subst (λ (x : Call). Outcome w x (answer_of a) left) e o; is = ew ∙ ap (λ (x : ℕ). x ∷ zeros 15) (en ∙ answer_code a) ∙ p (answer_of a) }
-
-push_plain : (e : EventIn) → plain (push e)
-unfolding answer_words
-push_plain e a = refl
-
-set_action_plain : (z : Slot) (r : ActionIn) → plain (set_action z r)
-unfolding answer_words
-set_action_plain z r a = refl
-
-clear_action_plain : (z : Slot) → plain (clear_action z)
-unfolding answer_words
-clear_action_plain z a = refl
-
-set_timer_plain : (z : Slot) (t : ℕ) → plain (set_timer z t)
-unfolding answer_words
-set_timer_plain z t a = refl
-
-clear_timer_plain : (z : Slot) → plain (clear_timer z)
-unfolding answer_words
-clear_timer_plain z a = refl
-
--- numbers that are a row's words, taken as an event, as an action and as a slot
-pub event_words_lem :
-    (k m d s p b q x k' m' d' s' p' b' q' x' : ℕ) → k ≡ k' → m ≡ m' → d ≡ d' → s ≡ s' → p ≡ p' → b ≡ b' → q ≡ q' → x ≡ x'
-    → event_for k m d s p b q x ≡ event_for k' m' d' s' p' b' q' x'
-event_words_lem k m d s p b q x k' m' d' s' p' b' q' x' e1 e2 e3 e4 e5 e6 e7 e8 =
-    λ i. event_for (e1 i) (e2 i) (e3 i) (e4 i) (e5 i) (e6 i) (e7 i) (e8 i)
-
-pub action_words :
-    (k m d b q k' m' d' b' q' : ℕ) → k ≡ k' → m ≡ m' → d ≡ d' → b ≡ b' → q ≡ q' → action_for k m d b q ≡ action_for k' m' d' b' q'
-action_words k m d b q k' m' d' b' q' e1 e2 e3 e4 e5 = λ i. action_for (e1 i) (e2 i) (e3 i) (e4 i) (e5 i)
-
-slot_words : (z : Bool) (side machine s m : ℕ) → z ≡ is_set side → side ≡ s → machine ≡ m → slot_in z machine ≡ slot_for s m
-slot_words z side machine s m ez es em = slot_is z side machine ez ∙ (λ i. slot_for (es i) (em i))
-
-module _ (w : List ℕ) (a : Result Unit Refusal) (left : List ℕ) (n : ℕ) (words : List ℕ) (en : n ≡ code_in a) (ew : words ≡ n ∷ zeros 15) where
-  pub push_made : (e f : EventIn) → e ≡ f → Outcome w (push e) (answer_of a) left → CallMade w (push f) words left
-  push_made e f ee o = plain_made w (push e) (push f) a left n words (ap push ee) (push_plain f) o en ew
-
-  module _ (z : Bool) (side machine s m : ℕ) (ez : z ≡ is_set side) (es : side ≡ s) (em : machine ≡ m) where
-    pub set_action_made :
-        (r q : ActionIn) → r ≡ q → Outcome w (set_action (slot_in z machine) r) (answer_of a) left → CallMade w (set_action (slot_for s m) q) words left
-    set_action_made r q e o =
-        plain_made w _ _ a left n words (λ i. set_action (slot_words z side machine s m ez es em i) (e i)) (set_action_plain (slot_for s m) q) o en ew
-
-    pub clear_action_made : Outcome w (clear_action (slot_in z machine)) (answer_of a) left → CallMade w (clear_action (slot_for s m)) words left
-    clear_action_made o = plain_made w _ _ a left n words (ap clear_action (slot_words z side machine s m ez es em)) (clear_action_plain (slot_for s m)) o en ew
-
-    pub set_timer_made :
-        (t u : ℕ) → t ≡ u → Outcome w (set_timer (slot_in z machine) t) (answer_of a) left → CallMade w (set_timer (slot_for s m) u) words left
-    set_timer_made t u e o =
-        plain_made w _ _ a left n words (λ i. set_timer (slot_words z side machine s m ez es em i) (e i)) (set_timer_plain (slot_for s m) u) o en ew
-
-    pub clear_timer_made : Outcome w (clear_timer (slot_in z machine)) (answer_of a) left → CallMade w (clear_timer (slot_for s m)) words left
-    clear_timer_made o = plain_made w _ _ a left n words (ap clear_timer (slot_words z side machine s m ez es em)) (clear_timer_plain (slot_for s m)) o en ew
-
-pub choice_made :
-    (w : List ℕ) (t u : ℕ) (a : Result Chosen Refusal) (left words : List ℕ) → t ≡ u → Outcome w (pick_next t) (choice_of a) left
-    → words ≡ number_in (choice_of a) ∷ choice_words (choice_of a) ++ zeros 5 → CallMade w (pick_next u) words left
-unfolding answer_words
-choice_made w t u a left words et o e = record { answer = choice_of a; outcome = subst (λ (x : ℕ). Outcome w (pick_next x) (choice_of a) left) et o; is = e }
-
-pub stepped_made :
-    (w : List ℕ) (t u : ℕ) (e f : EventIn) (a : Result Stepped Refusal) (left words : List ℕ) → t ≡ u → e ≡ f → Outcome w (sim_network_stack t e) (step_of a) left
-    → words ≡ number_in (step_of a) ∷ step_words (step_of a) ++ zeros 12 → CallMade w (sim_network_stack u f) words left
-unfolding answer_words
-stepped_made w t u e f a left words et ee o es =
-    record { answer = step_of a; outcome = subst (λ (x : Call). Outcome w x (step_of a) left) (λ i. sim_network_stack (et i) (ee i)) o; is = es }
-
--- ---- the call of a code
-
-module _ (w : List ℕ) (code : Code) (a : ℕ → ℕ) (words left : List ℕ) where
-  code_is : (c : Code) → code ≡ c → CallMade w (call_for (code_no c) a) words left → CallMade w (call_for (code_no code) a) words left
-  code_is c e r = subst (λ (x : Code). CallMade w (call_for (code_no x) a) words left) (sym e) r
-
-  pub code_0 : code ≡ Push → CallMade w (push (event_for (a 1) (a 2) (a 3) (a 4) (a 5) (a 6) (a 7) (a 8))) words left → CallMade w (call_for (code_no code) a) words left
-  unfolding call_for
-  code_0 e r = code_is Push e r
-
-  pub code_1 : code ≡ SetAction → CallMade w (set_action (slot_for (a 1) (a 2)) (action_for (a 3) (a 4) (a 5) (a 6) (a 7))) words left → CallMade w (call_for (code_no code) a) words left
-  unfolding call_for
-  code_1 e r = code_is SetAction e r
-
-  pub code_2 : code ≡ ClearAction → CallMade w (clear_action (slot_for (a 1) (a 2))) words left → CallMade w (call_for (code_no code) a) words left
-  unfolding call_for
-  code_2 e r = code_is ClearAction e r
-
-  pub code_3 : code ≡ SetTimer → CallMade w (set_timer (slot_for (a 1) (a 2)) (a 3)) words left → CallMade w (call_for (code_no code) a) words left
-  unfolding call_for
-  code_3 e r = code_is SetTimer e r
-
-  pub code_4 : code ≡ ClearTimer → CallMade w (clear_timer (slot_for (a 1) (a 2))) words left → CallMade w (call_for (code_no code) a) words left
-  unfolding call_for
-  code_4 e r = code_is ClearTimer e r
-
-  pub code_5 : code ≡ PickNext → CallMade w (pick_next (a 1)) words left → CallMade w (call_for (code_no code) a) words left
-  unfolding call_for
-  code_5 e r = code_is PickNext e r
-
-  pub code_6 : code ≡ SimNetworkStack → CallMade w (sim_network_stack (a 1) (event_for (a 2) (a 3) (a 4) (a 5) (a 6) (a 7) (a 8) (a 9))) words left → CallMade w (call_for (code_no code) a) words left
-  unfolding call_for
-  code_6 e r = code_is SimNetworkStack e r
+    pub code_6 : code ≡ SimNetworkStack → words ≡ number_in a ∷ step_words a ++ zeros 12 → Outcome w (sim_network_stack (word_in ws 1) (event_from ws 2)) a left → CallMade w (call_for (call_no code) (word_in ws)) words left
+    unfolding call_for answer_words
+    code_6 e is o = code_is SimNetworkStack e (record { answer = a; outcome = o; is = is })
 
 -- ---- a turn
 
@@ -250,68 +129,100 @@ module _ (w : List ℕ) (t : ℕ) (acc : Accepted w) (a : Result Chosen Refusal)
           is = q ∙ ap (λ (x : Result Chosen Refusal). turn_words (choice_of x) (step_of b)) (sym e);
         }
 
-  pub turn_accepted : Accepted mid
-  turn_accepted = (o.state acc).accepted
-
 -- ---- the row
 
-taken : (b : Bool) (x y : List Call) → b ≡ true → x ≡ (if b then x else y)
+taken : {A : Type 0} (b : Bool) (x y : A) → b ≡ true → x ≡ (if b then x else y)
 taken b x y e = rw e
 
-other : (b : Bool) (x y : List Call) → b ≡ false → y ≡ (if b then x else y)
+other : {A : Type 0} (b : Bool) (x y : A) → b ≡ false → y ≡ (if b then x else y)
 other b x y e = rw e
 
-module _ (w rows : List ℕ) (i last : ℕ) (words left : List ℕ) where
-  pub row_call : (code : ℕ) → word_at rows i 0 ≡ code → (code ≡ 7 → ⊥) → CallMade w (call_for code (word_at rows i)) words left → RowMade w rows i last words left
+-- what is said of a row's words is said of them in the list
+code_in_row : (rows : List ℕ) (i : ℕ) (ws : List ℕ) (code : Code) → code_no code ≡ word_in ws 0 → IsRow rows i ws → code_at rows i ≡ code_no code
+code_in_row rows i ws code e row = sym (e ∙ row 0 (omega arith))
+
+-- the rows are cut out of the list twelve words by twelve
+chunk_at : (k at : ℕ) (rows : List ℕ) → at < k → get_or (first_chunks 12 k rows) at [] ≡ take 12 (drop (12 * at) rows)
+chunk_at zero at rows l = absurd (omega arith)
+chunk_at (suc k) zero rows l = refl
+chunk_at (suc k) (suc at) rows l =
+    chunk_at k at (drop 12 rows) (omega arith) ∙ ap (take 12) (drop-drop (12 * at) 12 rows ∙ ap (λ (n : ℕ). drop n rows) (omega arith))
+
+pub row_no : (rows words : List ℕ) (k i : ℕ) → i < k → words ≡ get_or (first_chunks 12 k rows) i [] → IsRow rows i words
+row_no rows words k i inside e j l =
+    ap (λ (x : List ℕ). get_or x j 0) (e ∙ chunk_at k i rows inside) ∙ get_or-take 12 (drop (12 * i) rows) j 0 l ∙ get_or-drop (12 * i) rows j 0
+
+pub not_row : (rows words : List ℕ) (k i : ℕ) → i < k → words ≡ get_or (first_chunks 12 k rows) i [] → is_row (word_in words 0) ≡ false → is_row (code_at rows i) ≡ false
+not_row rows words k i inside e r = ap is_row (sym (row_no rows words k i inside e 0 (omega arith))) ∙ r
+
+-- a call reads no word above 9
+call_in_row : (rows : List ℕ) (i : ℕ) (ws : List ℕ) → IsRow rows i ws → (code : ℕ) → call_for code (word_in ws) ≡ call_for code (word_at rows i)
+unfolding call_for
+call_in_row rows i ws row code =
+    let e1 = row 1 (omega arith) in
+    let e2 = row 2 (omega arith) in
+    let e3 = row 3 (omega arith) in
+    let e4 = row 4 (omega arith) in
+    let e5 = row 5 (omega arith) in
+    let e6 = row 6 (omega arith) in
+    let e7 = row 7 (omega arith) in
+    let e8 = row 8 (omega arith) in
+    let e9 = row 9 (omega arith) in
+    λ d.
+    get_or
+    (push (event_for (e1 d) (e2 d) (e3 d) (e4 d) (e5 d) (e6 d) (e7 d) (e8 d))
+    ∷ set_action (slot_for (e1 d) (e2 d)) (action_for (e3 d) (e4 d) (e5 d) (e6 d) (e7 d))
+    ∷ clear_action (slot_for (e1 d) (e2 d))
+    ∷ set_timer (slot_for (e1 d) (e2 d)) (e3 d)
+    ∷ clear_timer (slot_for (e1 d) (e2 d))
+    ∷ pick_next (e1 d)
+    ∷ sim_network_stack (e1 d) (event_for (e2 d) (e3 d) (e4 d) (e5 d) (e6 d) (e7 d) (e8 d) (e9 d))
+    ∷ [])
+    code
+    (pick_next (e1 d))
+
+-- a call's code is no turn's
+call_below : (c : CallCode) → call_no c < 7
+call_below Push = omega arith
+call_below SetAction = omega arith
+call_below ClearAction = omega arith
+call_below SetTimer = omega arith
+call_below ClearTimer = omega arith
+call_below PickNext = omega arith
+call_below SimNetworkStack = omega arith
+
+pub code_small : (rows : List ℕ) (i : ℕ) (ws : List ℕ) (code : Code) → code_no code ≡ word_in ws 0 → IsRow rows i ws → code_at rows i ≤ 7
+code_small rows i ws (Named c) e row = omega (arith, call_below c, code_in_row rows i ws (Named c) e row)
+code_small rows i ws Turn e row = omega (arith, code_in_row rows i ws Turn e row)
+
+module _ (w rows : List ℕ) (i last : ℕ) (words left ws : List ℕ) (code : Code) (coded : code_no code ≡ word_in ws 0) (row : IsRow rows i ws) where
+  is_code : code_at rows i ≡ code_no code
+  is_code = code_in_row rows i ws code coded row
+
+  pub row_call : (c : CallCode) → code ≡ Named c → CallMade w (call_for (call_no c) (word_in ws)) words left → RowMade w rows i last words left
   unfolding row_calls
-  row_call code is n r =
-      let e = sym is in
+  row_call c e r =
+      let is : code_at rows i ≡ call_no c = is_code ∙ ap code_no e in
       record {
-        made = record { call = call_for code (word_at rows i); answer = r.answer; left = left } ∷ [];
+        made = record { call = call_for (call_no c) (word_in ws); answer = r.answer; left = left } ∷ [];
         runs = (r.outcome, tt);
-        calls = ap (λ (x : ℕ). call_for x (word_at rows i) ∷ []) e ∙ other (is_turn (code_at rows i)) _ _ (ne_eqb (code_at rows i) 7 (λ z. n (e ∙ z)));
+        calls = ap (λ (x : Call). x ∷ []) (call_in_row rows i ws row (call_no c)) ∙ ap (λ (x : ℕ). call_for x (word_at rows i) ∷ []) (sym is)
+            ∙ other (is_turn (code_at rows i)) _ _ (ne_eqb (code_at rows i) 7 (λ z. omega (arith, call_below c, is, z)));
         leaves = refl;
         is = r.is;
       }
 
-  pub row_turn :
-      (code t : ℕ) → word_at rows i 0 ≡ code → code ≡ 7 → t ≡ max (word_at rows i 1) last → TurnMade w t words left → RowMade w rows i last words left
+  pub row_turn : (t n : ℕ) → code ≡ Turn → n ≡ word_in ws 1 → t ≡ max n last → TurnMade w t words left → RowMade w rows i last words left
   unfolding row_calls
-  row_turn code t is s et r =
-      let e = sym is in
+  row_turn t n s en et r =
       record {
         made = r.made;
         runs = r.runs;
-        calls = r.calls ∙ ap (λ (x : ℕ). pick_next x ∷ step_after (first_answer r.made)) et ∙ taken (is_turn (code_at rows i)) _ _ (eq-eqb (code_at rows i) 7 (sym e ∙ s));
+        calls = r.calls ∙ ap (λ (x : ℕ). pick_next x ∷ step_after (first_answer r.made)) (et ∙ ap (λ (x : ℕ). max x last) (en ∙ row 1 (omega arith)))
+            ∙ taken (is_turn (code_at rows i)) _ _ (eq-eqb (code_at rows i) 7 (is_code ∙ ap code_no s));
         leaves = r.leaves;
         is = r.is;
       }
-
--- a code that is no turn's is a call's
-pub no_turn : (c : Code) → (c ≡ Turn → ⊥) → code_no c < 7
-no_turn Push n = omega arith
-no_turn SetAction n = omega arith
-no_turn ClearAction n = omega arith
-no_turn SetTimer n = omega arith
-no_turn ClearTimer n = omega arith
-no_turn PickNext n = omega arith
-no_turn SimNetworkStack n = omega arith
-no_turn Turn n = absurd (n refl)
-
-pub code_small : (c : Code) (n : ℕ) → n ≡ code_no c → n ≤ 7
-code_small Push n e = omega arith
-code_small SetAction n e = omega arith
-code_small ClearAction n e = omega arith
-code_small SetTimer n e = omega arith
-code_small ClearTimer n e = omega arith
-code_small PickNext n e = omega arith
-code_small SimNetworkStack n e = omega arith
-code_small Turn n e = omega arith
-
--- a word that is read as none is no row's
-pub not_read : (n m : ℕ) (o : CodeOption Code) → ((c : Code) → o ≡ Some c → ⊥) → m ≡ n → ReadAs m o → is_row n ≡ false
-not_read n m None d e r = ap is_row (sym e) ∙ r
-not_read n m (Some c) d e r = absurd (d c refl)
 
 -- a refusal has no word but its number
 refused_words : (c : Call) (n : ℕ) → n ∷ zeros 15 ≡ answer_words c (refused n 0)

@@ -1,23 +1,19 @@
 -- What the functions of src/written.rt write is the answer's words. Assumes nothing.
 use Prim.Native.Nat.{ℕ, ◌<◌, ◌≤◌}
-use mathlib.Core.Path.{◌≡◌, refl, sym, ap, subst, ◌∙◌}
+use mathlib.Core.Path.{◌≡◌, refl, sym, ap, ◌∙◌}
 use mathlib.Core.Bool.{Bool, true, false}
-use mathlib.Core.List.{List, [], ◌∷◌}
+use mathlib.Core.List.{[], ◌∷◌}
 use mathlib.Core.Option.{Option}
 use native.Mathlib.Omega.{arith}
 use mir.Val.{bool_byte}
-use Rattle.rules.specs.Choice.{Answer}
 use Rattle.rules.specs.State.{Event}
-use Rattle.rules.specs.Arguments.{Call}
 use Rattle.event.specs.HandedIn.{side_of}
 use Rattle.event.specs.Values.{known_event}
 use Rattle.event.specs.Answers.{chosen_as}
 use Rattle.event.specs.declared.SimEvent.{SimEvent}
-use Rattle.simulator.specs.Outcome.{Outcome}
 use Rattle.event.proofs.Numbers.{event_known, event_unknown}
 use Rattle.layout.proofs.Order.{rank_kind}
-use Rattle.calls.specs.Told.{number_in}
-use Rattle.calls.specs.Answers.{flag_word, side_word, no_event, choice_words, out_left, Answered}
+use Rattle.calls.specs.Answers.{flag_word, side_word, no_event, choice_words}
 
 -- ---- one word
 
@@ -43,16 +39,3 @@ event_is e rounds side padding bypass replace l s p b r =
     1 ∷ rounds ∷ sym (rank_kind e.kind.0 (omega arith)) d ∷ e.moment.0 ∷ e.delay.0 ∷ (s ∙ side_is e.client) d ∷ (p ∙ flag_is e.padding) d
     ∷ (b ∙ flag_is e.bypass) d ∷ (r ∙ flag_is e.replace) d ∷ e.machine ∷ [])
     ∙ ap (λ (o : Option Event). choice_words (chosen_as o rounds)) (sym (event_known e l))
-
--- ---- the promise of an exported call that writes its answer, from that of the call which it makes
-
-pub answered :
-    (w : List ℕ) (c d : Call) (words : Answer → List ℕ) (out : List ℕ) (n : ℕ) (a : Answer) (put left after : List ℕ) → c ≡ d → Outcome w c a left
-    → n ≡ number_in a → put ≡ words a → after ≡ out_left put out → Answered w d words out n left after
-answered w c d words out n a put left after e o q p t =
-    record {
-      answer = a;
-      outcome = subst (λ (x : Call). Outcome w x a left) e o;
-      number = q;
-      written = t ∙ ap (λ (x : List ℕ). out_left x out) p;
-    }

@@ -1,21 +1,27 @@
 // One row of a list: a call on words that are known to be accepted, and its answer in sixteen words.
-ghost use Rattle.std.specs.Prelude.{◌≡◌, ◌+◌, ◌*◌, ◌<◌, ◌≤◌, ◌∷◌, ◌++◌, length};
-ghost use Rattle.rules.specs.Arguments.{push, set_action, clear_action, set_timer, clear_timer, pick_next, sim_network_stack};
-ghost use Rattle.event.specs.Answers.{choice_of, step_of};
+ghost use Rattle.std.specs.Prelude.{◌≡◌, ◌≤◌, ◌∷◌, ◌++◌, ℕ, List, false, MatchOption};
+ghost use Rattle.rules.specs.Arguments.{push, pick_next, sim_network_stack};
+ghost use Rattle.event.specs.HandedIn.{event_in, action_in};
+ghost use Rattle.event.specs.Answers.{answer_of, choice_of, step_of};
 ghost use Rattle.layout.specs.Accepted.{Accepted};
-ghost use Rattle.calls.specs.Told.{event_for, action_for, slot_for, number_in};
+ghost use Rattle.simulator.specs.Numbers.{slot_in};
+ghost use Rattle.simulator.specs.Outcome.{Outcome};
+ghost use Rattle.calls.specs.Told.{action_for, slot_for, number_in};
 ghost use Rattle.calls.specs.Answers.{choice_words, step_words};
-ghost use Rattle.calls.specs.Rows.{word_at, call_for, zeros};
-ghost use Rattle.calls.specs.Codes.{code_no, ReadAs};
-ghost use Rattle.calls.specs.Made.{CallMade};
+ghost use Rattle.calls.specs.Rows.{is_row, call_for, zeros};
+ghost use Rattle.calls.specs.Codes.{call_no, code_no, CallReadAs, ReadAs, word_in, event_from as event_from_words, IsRow};
+ghost use Rattle.calls.specs.Made.{CallMade, ends_row, last_row};
 
-use crate::{told, written};
-use event::answer::{Choice, Step};
+use crate::{told, turn, written};
+use event::answer::{Answer, Choice, Step};
+use event::{ScheduledAction, SimEvent};
 use moment::Moment;
+use simulator::slots;
+use simulator::slots::{Held, Slot, Timer};
 
-// What a row asks for: a call, or a turn.
+// The call that a row names.
 #[derive(Clone, Copy)]
-pub enum Code {
+pub enum CallCode {
     Push,
     SetAction,
     ClearAction,
@@ -23,7 +29,30 @@ pub enum Code {
     ClearTimer,
     PickNext,
     SimNetworkStack,
+}
+
+// What a row asks for: a call, or a turn, which is two calls and not the absence of one.
+#[derive(Clone, Copy)]
+pub enum Code {
+    Call(CallCode),
     Turn,
+}
+
+impl CallCode {
+    fn from_word(word: u64) -> Option<CallCode>
+        ensures { CallReadAs word result }
+    {
+        match word {
+            0 => Some(CallCode::Push),
+            1 => Some(CallCode::SetAction),
+            2 => Some(CallCode::ClearAction),
+            3 => Some(CallCode::SetTimer),
+            4 => Some(CallCode::ClearTimer),
+            5 => Some(CallCode::PickNext),
+            6 => Some(CallCode::SimNetworkStack),
+            _ => None,
+        }
+    }
 }
 
 impl Code {
@@ -32,32 +61,26 @@ impl Code {
         ensures { ReadAs word result }
     {
         match word {
-            0 => Some(Code::Push),
-            1 => Some(Code::SetAction),
-            2 => Some(Code::ClearAction),
-            3 => Some(Code::SetTimer),
-            4 => Some(Code::ClearTimer),
-            5 => Some(Code::PickNext),
-            6 => Some(Code::SimNetworkStack),
             7 => Some(Code::Turn),
-            _ => None,
+            _ => Some(Code::Call(CallCode::from_word(word)?)),
         }
     }
 }
 
-// Word j of row `at`.
-pub fn word(rows: &[u64], at: usize, j: usize) -> u64
-    requires { (12 * at + 12 ≤ length rows.now) × (j < 12) }
-    ensures { result ≡ word_at rows.now at j }
-{
-    rows[12 * at + j]
-}
+// ---- the answers, in sixteen words
 
 // An answer that is a number alone.
 pub fn number_words(n: u64) -> [u64; 16]
     ensures { result ≡ n ∷ zeros 15 }
 {
     [n, 0, 0, 0, 0, 0, 0, 0, 0, 0, 0, 0, 0, 0, 0, 0]
+}
+
+// The answer of a call that answers no more than a number.
+fn answer_row(a: Answer) -> [u64; 16]
+    ensures { result ≡ number_in (answer_of a) ∷ zeros 15 }
+{
+    number_words(told::number(a))
 }
 
 // The answer of a choice.
@@ -80,125 +103,141 @@ fn step_row(a: Step) -> [u64; 16]
     [n, w[0], w[1], w[2], 0, 0, 0, 0, 0, 0, 0, 0, 0, 0, 0, 0]
 }
 
-fn push_sim(block: &mut [u64], hints: &mut [u64; 12], rows: &[u64], at: usize) -> [u64; 16]
-    requires fact_1 { Accepted block.old }
-    requires fact_2 { 12 * at + 12 ≤ length rows.now }
-    ensures { CallMade block.old (push (event_for (word_at rows.now at 1) (word_at rows.now at 2) (word_at rows.now at 3) (word_at rows.now at 4) (word_at rows.now at 5) (word_at rows.now at 6) (word_at rows.now at 7) (word_at rows.now at 8))) result block.new }
-{
-    let kind = word(rows, at, 1);
-    let moment = word(rows, at, 2);
-    let delay = word(rows, at, 3);
-    let side = word(rows, at, 4);
-    let padding = word(rows, at, 5);
-    let bypass = word(rows, at, 6);
-    let replace = word(rows, at, 7);
-    let machine = word(rows, at, 8);
-    let e = told::event_from(kind, moment, delay, side, padding, bypass, replace, machine);
-    let a = simulator::push::push_sim_on(block, hints, e);
-    number_words(told::number(a))
+// ---- a row
+
+// A row that asks for a call or a turn: its twelve words, of which the first is its code.
+#[derive(Clone, Copy)]
+pub struct Row<'a> {
+    pub code: Code,
+    pub words: &'a [u64; 12],
+    pub ghost coded: { code_no code ≡ word_in words.now 0 },
 }
 
-fn set_action(block: &mut [u64], rows: &[u64], at: usize) -> [u64; 16]
-    requires fact_1 { Accepted block.old }
-    requires fact_2 { 12 * at + 12 ≤ length rows.now }
-    ensures { CallMade block.old (set_action (slot_for (word_at rows.now at 1) (word_at rows.now at 2)) (action_for (word_at rows.now at 3) (word_at rows.now at 4) (word_at rows.now at 5) (word_at rows.now at 6) (word_at rows.now at 7))) result block.new }
-{
-    let client = told::is_set(word(rows, at, 1));
-    let machine = word(rows, at, 2);
-    let kind = word(rows, at, 3);
-    let moment = word(rows, at, 4);
-    let duration = word(rows, at, 5);
-    let bypass = word(rows, at, 6);
-    let replace = word(rows, at, 7);
-    let action = told::action_from(kind, moment, duration, bypass, replace);
-    let a = simulator::slots::set_action_on(block, client, machine, action);
-    number_words(told::number(a))
+impl<'a> Row<'a> {
+    // Of these words, unless they ask for nothing.
+    pub fn read(words: &'a [u64; 12]) -> Option<Row<'a>>
+        ensures { MatchOption result (is_row (word_in words.now 0) ≡ false) (λ r. r.words.now ≡ words.now) }
+    {
+        let code = Code::from_word(words[0])?;
+        Some(Row { code, words })
+    }
 }
 
-fn clear_action(block: &mut [u64], rows: &[u64], at: usize) -> [u64; 16]
-    requires fact_1 { Accepted block.old }
-    requires fact_2 { 12 * at + 12 ≤ length rows.now }
-    ensures { CallMade block.old (clear_action (slot_for (word_at rows.now at 1) (word_at rows.now at 2))) result block.new }
-{
-    let client = told::is_set(word(rows, at, 1));
-    let machine = word(rows, at, 2);
-    let a = simulator::slots::clear_action_on(block, client, machine);
-    number_words(told::number(a))
-}
+impl Row<'_> {
+    // The event whose eight words begin at word `at`.
+    fn event(&self, at: usize) -> SimEvent
+        requires { at ≤ 2 }
+        ensures { event_in result ≡ event_from_words self.now.words.now at }
+    {
+        let kind = self.words[at];
+        let moment = self.words[at + 1];
+        let delay = self.words[at + 2];
+        let side = self.words[at + 3];
+        let padding = self.words[at + 4];
+        let bypass = self.words[at + 5];
+        let replace = self.words[at + 6];
+        let machine = self.words[at + 7];
+        told::event_from(kind, moment, delay, side, padding, bypass, replace, machine)
+    }
 
-fn set_timer(block: &mut [u64], rows: &[u64], at: usize) -> [u64; 16]
-    requires fact_1 { Accepted block.old }
-    requires fact_2 { 12 * at + 12 ≤ length rows.now }
-    ensures { CallMade block.old (set_timer (slot_for (word_at rows.now at 1) (word_at rows.now at 2)) (word_at rows.now at 3)) result block.new }
-{
-    let client = told::is_set(word(rows, at, 1));
-    let machine = word(rows, at, 2);
-    let moment = word(rows, at, 3);
-    let a = simulator::slots::set_timer_on(block, client, machine, Moment(moment));
-    number_words(told::number(a))
-}
+    fn slot(&self) -> Slot
+        ensures { slot_in result.client result.machine ≡ slot_for (word_in self.now.words.now 1) (word_in self.now.words.now 2) }
+    {
+        told::slot_from(self.words[1], self.words[2])
+    }
 
-fn clear_timer(block: &mut [u64], rows: &[u64], at: usize) -> [u64; 16]
-    requires fact_1 { Accepted block.old }
-    requires fact_2 { 12 * at + 12 ≤ length rows.now }
-    ensures { CallMade block.old (clear_timer (slot_for (word_at rows.now at 1) (word_at rows.now at 2))) result block.new }
-{
-    let client = told::is_set(word(rows, at, 1));
-    let machine = word(rows, at, 2);
-    let a = simulator::slots::clear_timer_on(block, client, machine);
-    number_words(told::number(a))
-}
+    fn action(&self) -> ScheduledAction
+        ensures { action_in result ≡ action_for (word_in self.now.words.now 3) (word_in self.now.words.now 4) (word_in self.now.words.now 5) (word_in self.now.words.now 6) (word_in self.now.words.now 7) }
+    {
+        let kind = self.words[3];
+        let moment = self.words[4];
+        let duration = self.words[5];
+        let bypass = self.words[6];
+        let replace = self.words[7];
+        told::action_from(kind, moment, duration, bypass, replace)
+    }
 
-fn pick_next(block: &mut [u64], hints: &mut [u64; 12], rows: &[u64], at: usize) -> [u64; 16]
-    requires fact_1 { Accepted block.old }
-    requires fact_2 { 12 * at + 12 ≤ length rows.now }
-    ensures { CallMade block.old (pick_next (word_at rows.now at 1)) result block.new }
-{
-    let time = word(rows, at, 1);
-    let a = simulator::choice::pick_next_on(block, hints, Moment(time));
-    choice_row(a)
-}
+    // The time of a choice, of a step and of a turn.
+    pub fn time(&self) -> Moment
+        ensures { result.0 ≡ word_in self.now.words.now 1 }
+    {
+        Moment(self.words[1])
+    }
 
-fn sim_network_stack(block: &mut [u64], hints: &mut [u64; 12], rows: &[u64], at: usize) -> [u64; 16]
-    requires fact_1 { Accepted block.old }
-    requires fact_2 { 12 * at + 12 ≤ length rows.now }
-    ensures { CallMade block.old (sim_network_stack (word_at rows.now at 1) (event_for (word_at rows.now at 2) (word_at rows.now at 3) (word_at rows.now at 4) (word_at rows.now at 5) (word_at rows.now at 6) (word_at rows.now at 7) (word_at rows.now at 8) (word_at rows.now at 9))) result block.new }
-{
-    let time = word(rows, at, 1);
-    let kind = word(rows, at, 2);
-    let moment = word(rows, at, 3);
-    let delay = word(rows, at, 4);
-    let side = word(rows, at, 5);
-    let padding = word(rows, at, 6);
-    let bypass = word(rows, at, 7);
-    let replace = word(rows, at, 8);
-    let machine = word(rows, at, 9);
-    let e = told::event_from(kind, moment, delay, side, padding, bypass, replace, machine);
-    let a = simulator::step::sim_network_stack_on(block, hints, e, Moment(time));
-    step_row(a)
-}
+    fn timer(&self) -> Timer
+        ensures { result.0.0 ≡ word_in self.now.words.now 3 }
+    {
+        Timer(Moment(self.words[3]))
+    }
 
-// The call of row `at`.
-pub fn call(
-    block: &mut [u64],
-    hints: &mut [u64; 12],
-    rows: &[u64],
-    at: usize,
-    code: Code,
-) -> [u64; 16]
-    requires fact_1 { Accepted block.old }
-    requires fact_2 { 12 * at + 12 ≤ length rows.now }
-    requires fact_3 { code_no code < 7 }
-    ensures { CallMade block.old (call_for (code_no code) (word_at rows.now at)) result block.new }
-{
-    match code {
-        Code::Push => push_sim(block, hints, rows, at),
-        Code::SetAction => set_action(block, rows, at),
-        Code::ClearAction => clear_action(block, rows, at),
-        Code::SetTimer => set_timer(block, rows, at),
-        Code::ClearTimer => clear_timer(block, rows, at),
-        Code::PickNext => pick_next(block, hints, rows, at),
-        Code::SimNetworkStack => sim_network_stack(block, hints, rows, at),
-        Code::Turn => unreachable!(),
+    fn push_sim(&self, block: &mut [u64], hints: &mut [u64; 12]) -> Answer
+        requires { Accepted block.old }
+        ensures { Outcome block.old (push (event_from_words self.now.words.now 1)) (answer_of result) block.new }
+    {
+        simulator::push::push_sim_on(block, hints, self.event(1))
+    }
+
+    fn set<H: Held>(&self, block: &mut [u64], held: H) -> Answer
+        requires { Accepted block.old }
+        ensures { Outcome block.old (H.setting (slot_for (word_in self.now.words.now 1) (word_in self.now.words.now 2)) held) (answer_of result) block.new }
+    {
+        slots::set_on(block, self.slot(), held)
+    }
+
+    fn clear<H: Held>(&self, block: &mut [u64]) -> Answer
+        requires { Accepted block.old }
+        ensures { Outcome block.old (H.clearing (slot_for (word_in self.now.words.now 1) (word_in self.now.words.now 2))) (answer_of result) block.new }
+    {
+        slots::clear_on::<H>(block, self.slot())
+    }
+
+    fn pick_next(&self, block: &mut [u64], hints: &mut [u64; 12]) -> Choice
+        requires { Accepted block.old }
+        ensures { Outcome block.old (pick_next (word_in self.now.words.now 1)) (choice_of result) block.new }
+    {
+        simulator::choice::pick_next_on(block, hints, self.time())
+    }
+
+    fn sim_network_stack(&self, block: &mut [u64], hints: &mut [u64; 12]) -> Step
+        requires { Accepted block.old }
+        ensures { Outcome block.old (sim_network_stack (word_in self.now.words.now 1) (event_from_words self.now.words.now 2)) (step_of result) block.new }
+    {
+        simulator::step::sim_network_stack_on(block, hints, self.event(2), self.time())
+    }
+
+    // The call that it names, and its answer.
+    pub fn call(&self, code: CallCode, block: &mut [u64], hints: &mut [u64; 12]) -> [u64; 16]
+        requires { Accepted block.old }
+        ensures { CallMade block.old (call_for (call_no code) (word_in self.now.words.now)) result block.new }
+    {
+        match code {
+            CallCode::Push => answer_row(self.push_sim(block, hints)),
+            CallCode::SetAction => answer_row(self.set(block, self.action())),
+            CallCode::ClearAction => answer_row(self.clear::<ScheduledAction>(block)),
+            CallCode::SetTimer => answer_row(self.set(block, self.timer())),
+            CallCode::ClearTimer => answer_row(self.clear::<Timer>(block)),
+            CallCode::PickNext => choice_row(self.pick_next(block, hints)),
+            CallCode::SimNetworkStack => step_row(self.sim_network_stack(block, hints)),
+        }
+    }
+
+    // Whether the list ends after it, whose answer is given.
+    pub fn ends(&self, words: [u64; 16]) -> bool
+        ensures { (rows : List ℕ) (at : ℕ) → IsRow rows at self.now.words.now → result ≡ ends_row rows at words }
+    {
+        match self.code {
+            Code::Turn => turn::ends(words, self.words[2]),
+            _ => false,
+        }
+    }
+
+    // The moment of the last event chosen, after it.
+    pub fn last_after(&self, words: [u64; 16], last: u64) -> u64
+        ensures { (rows : List ℕ) (at : ℕ) → IsRow rows at self.now.words.now → result ≡ last_row rows at words last }
+    {
+        match self.code {
+            Code::Turn | Code::Call(CallCode::PickNext) => turn::last(words, last),
+            _ => last,
+        }
     }
 }

@@ -1,11 +1,13 @@
 // What crosses as numbers: an event, an action, a flag, and a call's answer.
 ghost use Rattle.std.specs.Prelude.{◌≡◌};
 ghost use Rattle.event.specs.HandedIn.{event_in, action_in};
-ghost use Rattle.calls.specs.Told.{is_set, event_for, action_for, code_in};
+ghost use Rattle.simulator.specs.Numbers.{slot_in};
+ghost use Rattle.calls.specs.Told.{is_set, event_for, action_for, slot_for, code_in};
 
 use event::answer::Refusal;
 use event::{ActionKind, Kind, ScheduledAction, SimEvent};
 use moment::{Length, Moment};
+use simulator::slots::Slot;
 
 pub fn is_set(n: u64) -> bool
     ensures { result ≡ is_set n }
@@ -23,7 +25,7 @@ pub fn number<T: Copy>(a: Result<T, Refusal>) -> u64
     }
 }
 
-// The event that is handed in.
+// The event that is handed in, as eight numbers: they are C's parameters and the words of a row.
 pub fn event_from(
     kind: u64,
     moment: u64,
@@ -46,6 +48,14 @@ pub fn event_from(
         replace: is_set(replace),
         machine,
     }
+}
+
+// The slot that is handed in.
+pub fn slot_from(side: u64, machine: u64) -> Slot
+    ensures { slot_in result.client result.machine ≡ slot_for side machine }
+{
+    let client = is_set(side);
+    Slot { client, machine }
 }
 
 // The action that is handed in.

@@ -57,10 +57,8 @@ fn bit(n: u64, k: u64) -> bool
     ensures { result ≡ bit_of n k }
 {
     let mut rest = n;
-    let mut left = k;
-    while 0 < left {
-        rest = rest / 2;
-        left = left - 1;
+    for _ in 0..k {
+        rest /= 2;
     }
     rest % 2 == 1
 }

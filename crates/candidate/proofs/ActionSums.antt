@@ -16,8 +16,7 @@ use Rattle.rules.specs.ChoiceRound.{fits, candidate_sums, raised_sum, action_sum
 use Rattle.event.specs.declared.ScheduledAction.{ScheduledAction}
 use Rattle.event.specs.declared.AggregateDelay.{AggregateDelay}
 use Rattle.event.specs.HandedIn.{side_of, aggregate_in}
-use Rattle.layout.specs.Header.{Limited}
-use Rattle.layout.specs.Accepted.{Good}
+use Rattle.layout.specs.Header.{Limited, SlotsOk}
 use Rattle.layout.specs.Changes.{side_no}
 use Rattle.layout.specs.Layout.{action_kind_at, action_from, bank, state_from}
 use Rattle.queue.specs.declared.peek.Head.{Head}
@@ -42,14 +41,17 @@ use Rattle.candidate.proofs.SumLaws.{action_within, reporting_within, action_hel
 -- ---- both delays
 
 module _ (h : List ℕ) (b : Bool) (v w : ℕ) (ev : v ≡ get_or h (4 + side_no (side_of b)) 0) (ew : w ≡ get_or h (6 + side_no (side_of b)) 0) where
-  pub delays_fit : Limited h → v + w < 2 ^ 64
-  delays_fit l = omega (arith, action_within h b v l ev, reporting_within h b w l ew)
+  pub delays_fit : (rs : List ℕ) → (side_held h rs b).fixed.action_delay + (side_held h rs b).fixed.reporting_delay < 2 ^ 64 → v + w < 2 ^ 64
+  delays_fit rs l = omega (arith, l, ev, ew, action_held h rs b, reporting_held h rs b)
 
-  pub delays_within : (n : ℕ) → Limited h → n ≡ v + w → n ≤ duration_limit + duration_limit
-  delays_within n l e = omega (arith, action_within h b v l ev, reporting_within h b w l ew)
+  pub delays_within : (n : ℕ) → n ≡ v + w → Limited h → n ≤ duration_limit + duration_limit
+  delays_within n e l = omega (arith, action_within h b v l ev, reporting_within h b w l ew)
 
   pub delays_held : (n : ℕ) → n ≡ v + w → (rs : List ℕ) → n ≡ (side_held h rs b).fixed.action_delay + (side_held h rs b).fixed.reporting_delay
   delays_held n e rs = e ∙ ap₂ ◌+◌ (ev ∙ sym (action_held h rs b)) (ew ∙ sym (reporting_held h rs b))
+
+pub delays_small : (h rs : List ℕ) (b : Bool) → Limited h → (side_held h rs b).fixed.action_delay + (side_held h rs b).fixed.reporting_delay < 2 ^ 64
+delays_small h rs b l = omega (arith, action_within h b _ l (action_held h rs b), reporting_within h b _ l (reporting_held h rs b))
 
 -- ---- an action
 
@@ -88,9 +90,6 @@ module _ (h : List ℕ) (b : Bool) (a : ScheduledAction) where
 
 -- ---- what stands in the words
 
-pub good_limits : (h rs : List ℕ) → Good h rs → Limited h
-good_limits h rs g = g.limits
-
 Within : RulesOption Action → Type 0
 Within none = Unit {0}
 Within (some a) = (a.moment ≤ moment_limit) × (a.duration ≤ duration_limit)
@@ -100,23 +99,23 @@ unfolding Within action_from
 from_within zero m d lm ld = tt
 from_within (suc w) m d lm ld = (lm, ld)
 
-module _ (h rs : List ℕ) (g : Good h rs) (b : Bool) (i : ℕ) (l : i < 16) where
+module _ (h : List ℕ) (g : SlotsOk h) (b : Bool) (i : ℕ) (l : i < 16) where
   duration_small : bank 96 96 h (2 + 3 * (16 * side_no (side_of b) + i)) ≤ duration_limit
   duration_small =
       let e : bank 96 96 h (2 + 3 * (16 * side_no (side_of b) + i)) ≡ get_or h (98 + 3 * (16 * side_no (side_of b) + i)) 0
       = bank_at 96 96 h (2 + 3 * (16 * side_no (side_of b) + i)) (omega (arith, side_small b)) ∙ ap (λ k. get_or h k 0) (omega arith) in
-      subst (λ k. k ≤ duration_limit) (sym e) (g.slots (16 * side_no (side_of b) + i) (omega (arith, side_small b))).action.durations
+      subst (λ k. k ≤ duration_limit) (sym e) (g (16 * side_no (side_of b) + i) (omega (arith, side_small b))).action.durations
 
   planned_within : Within (planned_in h b i)
   unfolding planned_in
-  planned_within = from_within _ _ _ (moment_small h rs g b i l) duration_small
+  planned_within = from_within _ _ _ (moment_small h g b i l) duration_small
 
-module _ (h rs : List ℕ) (c : Candidate) (g : Good h rs) (s : Stands h rs c) where
+module _ (h rs : List ℕ) (c : Candidate) (g : SlotsOk h) (s : Stands h rs c) where
   planned_held : (p : Planned) → c ≡ AnAction p → Within (some (action_value p.action))
   unfolding Stands
   planned_held p e =
       let q : Stands h rs (AnAction p) = subst (Stands h rs) e s in
-      subst Within (sym (planned_in_lem h rs p.client p.machine q.0) ∙ q.1) (planned_within h rs g p.client p.machine q.0)
+      subst Within (sym (planned_in_lem h rs p.client p.machine p.known) ∙ q.0) (planned_within h g p.client p.machine p.known)
 
   pub stands_moment : (p : Planned) → c ≡ AnAction p → p.action.moment.0 ≤ moment_limit
   unfolding Within
@@ -126,7 +125,7 @@ module _ (h rs : List ℕ) (c : Candidate) (g : Good h rs) (s : Stands h rs c) w
   unfolding Within
   stands_duration p e = (planned_held p e).1
 
-pub stands_end : (h rs : List ℕ) (c : Candidate) (t : ℕ) (k : BlockEnd) (by : Option Length) → c ≡ ABlock k by → Good h rs → t ≤ moment_limit → Stands h rs c → k.end.0 ≤ moment_limit
+pub stands_end : (h rs : List ℕ) (c : Candidate) (t : ℕ) (k : BlockEnd) (by : Option Length) → c ≡ ABlock k by → Limited h → t ≤ moment_limit → Stands h rs c → k.end.0 ≤ moment_limit
 unfolding Stands
 stands_end h rs c t k by e g l s = subst (λ o. RulesOption.get_or o t ≤ moment_limit) (subst (Stands h rs) e s) (end_small h rs k.client t g l)
 

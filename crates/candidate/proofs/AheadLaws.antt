@@ -15,6 +15,7 @@ use Rattle.rules.specs.Limits.{moment_limit}
 use Rattle.rules.specs.ChoiceDelays.{slot_delay, least_delay, action_moments, delays, Delays as RulesDelays}
 use Rattle.event.specs.HandedIn.{side_of}
 use Rattle.layout.specs.Accepted.{Good}
+use Rattle.layout.specs.Header.{SlotsOk}
 use Rattle.layout.specs.Changes.{side_no}
 use Rattle.layout.specs.Layout.{less_one, action_from, bank, firsts, state_from}
 use Rattle.queue.specs.Heads.{side_held}
@@ -82,18 +83,18 @@ unfolding Small action_from
 small_words zero m d l = tt
 small_words (suc w) m d l = l
 
-module _ (h rs : List ℕ) (g : Good h rs) (b : Bool) (i : ℕ) (l : i < 16) where
+module _ (h : List ℕ) (g : SlotsOk h) (b : Bool) (i : ℕ) (l : i < 16) where
   timer_small : Small (timer_in h b i)
   unfolding timer_in
   timer_small =
       small_word (bank 64 32 h (16 * side_no (side_of b) + i))
-      (rw (bank_at 64 32 h (16 * side_no (side_of b) + i) (omega (arith, side_small b))) (g.slots (16 * side_no (side_of b) + i) (omega (arith, side_small b))).timer)
+      (rw (bank_at 64 32 h (16 * side_no (side_of b) + i) (omega (arith, side_small b))) (g (16 * side_no (side_of b) + i) (omega (arith, side_small b))).timer)
 
   pub moment_small : bank 96 96 h (1 + 3 * (16 * side_no (side_of b) + i)) ≤ moment_limit
   moment_small =
       let e : bank 96 96 h (1 + 3 * (16 * side_no (side_of b) + i)) ≡ get_or h (97 + 3 * (16 * side_no (side_of b) + i)) 0
       = bank_at 96 96 h (1 + 3 * (16 * side_no (side_of b) + i)) (omega (arith, side_small b)) ∙ ap (λ k. get_or h k 0) (omega arith) in
-      subst (λ k. k ≤ moment_limit) (sym e) (g.slots (16 * side_no (side_of b) + i) (omega (arith, side_small b))).action.moments
+      subst (λ k. k ≤ moment_limit) (sym e) (g (16 * side_no (side_of b) + i) (omega (arith, side_small b))).action.moments
 
   action_small : Small (moment_in h b i)
   unfolding moment_in planned_in
@@ -101,10 +102,10 @@ module _ (h rs : List ℕ) (g : Good h rs) (b : Bool) (i : ℕ) (l : i < 16) whe
 
 module _ (h rs : List ℕ) (t : ℕ) (g : Good h rs) where
   timers_ahead : (b : Bool) → Ahead t (least_delay t (side_held h rs b).timers)
-  timers_ahead b = rw (timers_are h rs b) (ahead_least 16 (timer_in h b) t (λ i l. timer_small h rs g b i l))
+  timers_ahead b = rw (timers_are h rs b) (ahead_least 16 (timer_in h b) t (λ i l. timer_small h g.slots b i l))
 
   actions_ahead : (b : Bool) → Ahead t (least_delay t (action_moments (side_held h rs b)))
-  actions_ahead b = rw (moments_are h rs b) (ahead_least 16 (moment_in h b) t (λ i l. action_small h rs g b i l))
+  actions_ahead b = rw (moments_are h rs b) (ahead_least 16 (moment_in h b) t (λ i l. action_small h g.slots b i l))
 
   module _ (d : Delays) (e : delays_of d ≡ delays (state_from h rs) t) where
     pub timer_ahead : Ahead t (delay_of d.i)

@@ -18,12 +18,9 @@ use Rattle.event.specs.HandedIn.{side_of, aggregate_in}
 use Rattle.queue_event.specs.Tag.{side_field, is_client}
 use Rattle.queue_event.specs.Chain.{rec_at, nodes, Rec}
 use Rattle.queue_event.specs.Values.{read_aggregate}
-use Rattle.layout.specs.Records.{head_of, count_of}
+use Rattle.layout.specs.Records.{head_of, count_of, chain_at}
 use Rattle.layout.specs.Layout.{side_at, aggregate_from, held_aggregate, state_from}
 use Rattle.queue.specs.declared.peek.Head.{Head}
-use Rattle.queue.specs.declared.view.Words.{Words}
-use Rattle.queue.specs.Views.{state_in}
-use Rattle.queue.proofs.SlotLaws.{timers_sixteen, actions_sixteen}
 use Rattle.queue.specs.Heads.{found_of, side_held, PeekedBoth}
 use Rattle.queue_peek.specs.declared.blocks.BlockEnd.{BlockEnd}
 use Rattle.queue_peek.specs.Decoded.{delay_of, block_from, blocked_of}
@@ -36,7 +33,6 @@ use Rattle.candidate.specs.declared.Candidate.TheVariants.{Aggregate as AnAggreg
 use Rattle.candidate.specs.declared.Candidate.{Candidate}
 use Rattle.candidate.specs.Candidates.{due_slot, candidate_of, next_of, Stands, Reckoned, NextStands, NextReckoned}
 use Rattle.candidate.specs.Promises.{due_of, DueWhen, DueIn, Picked, TakenUp, Ahead}
-use Rattle.candidate.proofs.SlotLaws.{due_one}
 
 -- the same of an equal candidate
 pub moved : (h rs : List ℕ) (r : Option Candidate) (c d : RulesCandidate) → Picked h rs r c → c ≡ d → Picked h rs r d
@@ -52,25 +48,26 @@ aggregate_read : (x : Rec) → aggregate_in (read_aggregate x) ≡ aggregate_fro
 unfolding aggregate_from
 aggregate_read x = λ d. record { moment = x.moment; length = x.size; side = side_read (side_field x.tag) d }
 
-module _ (h rs : List ℕ) (m : ℕ) (em : m ≡ count_of h 11) where
-  aggregates_are : head? (map held_aggregate (nodes rs m (head_of h 11))) ≡ head? (state_from h rs).aggregates
+module _ (h rs : List ℕ) where
+  aggregates_are : head? (map held_aggregate (chain_at h rs 11)) ≡ head? (state_from h rs).aggregates
   unfolding state_from
-  aggregates_are = ap (λ l. head? (map held_aggregate l)) (ap (λ i. nodes rs i (head_of h 11)) em ∙ sym (chains_at h rs 11 (omega arith)))
+  aggregates_are = ap (λ l. head? (map held_aggregate l)) (sym (chains_at h rs 11 (omega arith)))
 
-  pub aggregate_none : m ≡ 0 → Picked h rs None (or_none an_aggregate (head? (state_from h rs).aggregates))
+  pub aggregate_none : count_of h 11 ≡ 0 → Picked h rs None (or_none an_aggregate (head? (state_from h rs).aggregates))
   unfolding next_of NextStands nodes
   aggregate_none z =
       record { is = ap (or_none an_aggregate) (sym (ap (λ i. head? (map held_aggregate (nodes rs i (head_of h 11)))) z) ∙ aggregates_are); stands = tt }
 
-  pub aggregate_some : (m ≡ 0 → ⊥) → (p : ℕ) (a : AggregateDelay) → p ≡ head_of h 11 → a ≡ read_aggregate (rec_at rs p)
+  -- the first record, p of the words rs'
+  pub aggregate_some : (rs' : List ℕ) (p : ℕ) (a : AggregateDelay) → 0 < count_of h 11 → p ≡ head_of h 11 → rs' ≡ rs → a ≡ read_aggregate (rec_at rs' p)
       → Picked h rs (Some (AnAggregate a)) (or_none an_aggregate (head? (state_from h rs).aggregates))
   unfolding next_of NextStands candidate_of Stands
-  aggregate_some ne p a ep ea =
+  aggregate_some rs' p a more ep er ea =
       record {
         is =
-            ap (λ v. an_aggregate (record { place = head_of h 11; value = v })) (ap aggregate_in (ea ∙ ap (λ i. read_aggregate (rec_at rs i)) ep) ∙ aggregate_read (rec_at rs (head_of h 11)))
-            ∙ ap (or_none an_aggregate) (sym (ap (λ l. head? (map held_aggregate l)) (nodes_next rs m (head_of h 11) (omega (arith, ne)))) ∙ aggregates_are);
-        stands = omega (arith, ne, em);
+            ap (λ v. an_aggregate (record { place = head_of h 11; value = v })) (ap aggregate_in (ea ∙ (λ d. read_aggregate (rec_at (er d) (ep d)))) ∙ aggregate_read (rec_at rs (head_of h 11)))
+            ∙ ap (or_none an_aggregate) (sym (ap (λ l. head? (map held_aggregate l)) (nodes_next rs (count_of h 11) (head_of h 11) more)) ∙ aggregates_are);
+        stands = more;
       }
 
 -- ---- the next block to end
@@ -145,12 +142,12 @@ module _ (h rs : List ℕ) (t : ℕ) (i : Option Length) where
           ∙ ap (λ n. or_none (λ (z : Slot). a_timer z n) (timer_slot (state_from h rs) n)) eu
           ∙ ap (λ (x : Option Length). due_timer (state_from h rs) t (delay_of x)) (sym e)
 
-      pub timer_some : (d : Due) → f ≡ Some d → d.machine < 16 → Picked h rs (Some (ATimer d)) (due_timer (state_from h rs) t (delay_of i))
+      pub timer_some : (d : Due) → f ≡ Some d → Picked h rs (Some (ATimer d)) (due_timer (state_from h rs) t (delay_of i))
       unfolding next_of NextStands candidate_of Stands due_of DueWhen
-      timer_some d x one =
+      timer_some d x =
           record {
             is = ap (a_timer (due_slot d)) (subst (DueWhen u.0) x p.when) ∙ ap (λ (y : Option Due). or_none (λ (z : Slot). a_timer z u.0) (due_of y)) (sym x) ∙ timer_is;
-            stands = one;
+            stands = tt;
           }
 
       pub timer_none : f ≡ None → Picked h rs None (due_timer (state_from h rs) t (delay_of i))
@@ -171,10 +168,3 @@ module _ (h rs : List ℕ) (t : ℕ) (i : Option Length) where
       pub action_none : f ≡ None → Picked h rs None (due_action (state_from h rs) t (delay_of i))
       unfolding next_of NextStands due_of
       action_none x = record { is = ap (λ (y : Option Due). or_none (action_from (state_from h rs)) (due_of y)) (sym x) ∙ action_is; stands = tt }
-
--- the machine of what is due in view
-pub timer_one : (w : Words) (t : ℕ) (r : Option Due) (d : Due) → DueIn (λ (x : SideState). x.timers) (state_in w) t r → r ≡ Some d → d.machine < 16
-timer_one w t r d p e = due_one (λ (x : SideState). x.timers) (state_in w) t r d (timers_sixteen w true) (timers_sixteen w false) p e
-
-pub action_one : (w : Words) (t : ℕ) (r : Option Due) (d : Due) → DueIn action_moments (state_in w) t r → r ≡ Some d → d.machine < 16
-action_one w t r d p e = due_one action_moments (state_in w) t r d (actions_sixteen w true) (actions_sixteen w false) p e

@@ -44,21 +44,21 @@ get_d_firsts (suc n) f (suc m) d l = get_d_firsts n (λ i. f (suc i)) m d (omega
 pub planned_in_lem : (h rs : List ℕ) (b : Bool) (m : ℕ) → m < 16 → action_in (state_from h rs) (record { side = side_of b; machine = m }) ≡ planned_in h b m
 planned_in_lem h rs b m l = ap (λ x. get_or x m none) (actions_are h rs b) ∙ get_d_firsts 16 (planned_in h b) m none l
 
-module _ (h rs : List ℕ) (d : Due) (j : ℕ) (l : d.machine < 16) (ej : j ≡ 16 * side_no (side_of d.client) + d.machine) where
+module _ (h rs : List ℕ) (d : Due) (j : ℕ) (ej : j ≡ 16 * side_no (side_of d.client) + d.machine) where
   e : 96 + 3 * j ≡ 96 + 3 * (16 * side_no (side_of d.client) + d.machine)
   e = ap (λ i. 96 + 3 * i) ej
 
   held_is : action_from (get_or h (96 + 3 * j) 0) (get_or h (96 + 3 * j + 1) 0) (get_or h (96 + 3 * j + 2) 0) ≡ action_in (state_from h rs) (due_slot d)
-  held_is = action_words h d.client d.machine (96 + 3 * j) l e ∙ sym (planned_in_lem h rs d.client d.machine l)
+  held_is = action_words h d.client d.machine (96 + 3 * j) d.known e ∙ sym (planned_in_lem h rs d.client d.machine d.known)
 
   pub planned_none : get_or h (96 + 3 * j) 0 ≡ 0 → Picked h rs None (action_from_slot (state_from h rs) (due_slot d))
   unfolding next_of NextStands
   planned_none z = record { is = ap (or_none (an_action (due_slot d))) (sym (read_none (get_or h (96 + 3 * j) 0) (get_or h (96 + 3 * j + 1) 0) (get_or h (96 + 3 * j + 2) 0) z) ∙ held_is); stands = tt }
 
-  pub planned_some : (a : ScheduledAction) → (get_or h (96 + 3 * j) 0 ≡ 0 → ⊥) → a ≡ action_read (get_or h (96 + 3 * j) 0) (get_or h (96 + 3 * j + 1) 0) (get_or h (96 + 3 * j + 2) 0)
-      → Picked h rs (Some (TheAction (record { client = d.client; machine = d.machine; action = a }))) (action_from_slot (state_from h rs) (due_slot d))
+  pub planned_some : (a : ScheduledAction) (k : d.machine < 16) → (get_or h (96 + 3 * j) 0 ≡ 0 → ⊥) → a ≡ action_read (get_or h (96 + 3 * j) 0) (get_or h (96 + 3 * j + 1) 0) (get_or h (96 + 3 * j + 2) 0)
+      → Picked h rs (Some (TheAction (record { client = d.client; machine = d.machine; action = a; known = k }))) (action_from_slot (state_from h rs) (due_slot d))
   unfolding next_of NextStands candidate_of Stands
-  planned_some a ne ea = record { is = ap (or_none (an_action (due_slot d))) held; stands = (l, sym held, ap (λ (x : ScheduledAction). x.kind.0) ea ∙ ap (λ (i : ℕ). get_or h i 0 % 4) e) }
+  planned_some a k ne ea = record { is = ap (or_none (an_action (due_slot d))) held; stands = (sym held, ap (λ (x : ScheduledAction). x.kind.0) ea ∙ ap (λ (i : ℕ). get_or h i 0 % 4) e) }
     where
       held : some (action_value a) ≡ action_in (state_from h rs) (due_slot d)
       held = ap (λ (x : ScheduledAction). some (action_value x)) ea ∙ sym (read_some (get_or h (96 + 3 * j) 0) (get_or h (96 + 3 * j + 1) 0) (get_or h (96 + 3 * j + 2) 0) ne) ∙ held_is

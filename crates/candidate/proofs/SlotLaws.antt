@@ -6,13 +6,12 @@ use mathlib.Core.List.{List, [], ◌∷◌}
 use mathlib.Core.Option as RulesOption
 use mathlib.Core.Option.{Option as RulesOption, none, some}
 use native.Mathlib.Omega.{arith}
-use native.Mathlib.Decide.{ℕ_discrete}
 use lib.Dec.{eqb, ltb}
 use lib.ListN.{get_or, length}
 use borrow.Author.Tests.{ltb-true, ltb-false}
 use Rattle.std.specs.Prelude.{if◌then◌else◌, Option, Some, None}
 use Rattle.rules.specs.State.{SideState, State}
-use Rattle.rules.specs.ChoiceRound.{slot_at, slot_of, Slot}
+use Rattle.rules.specs.ChoiceRound.{slot_at, slot_of}
 use Rattle.event.specs.HandedIn.{side_of}
 use Rattle.layout.specs.Changes.{side_no}
 use Rattle.layout.specs.Layout.{action_from, bank, firsts, state_from}
@@ -21,7 +20,6 @@ use Rattle.queue.specs.Slots.{held_at}
 use Rattle.queue.specs.Views.{moment_no}
 use Rattle.moment.specs.declared.Moment.{Moment}
 use Rattle.layout.proofs.Banks.{bank_at}
-use Rattle.candidate.specs.declared.Due.{Due}
 use Rattle.candidate.specs.Promises.{has_moment, planned_in, machine_of, due_of, DueWhen, DueIn}
 
 -- ---- the words of an action's slot
@@ -81,18 +79,8 @@ slot_none (o ∷ l) t b = slot_step t o l (b 0) ∙ ap (RulesOption.map suc) (sl
 pub record Missed (l : List (RulesOption ℕ)) (t m : ℕ) : Type 0 where
   pub below : (i : ℕ) → i < m → has_moment t (held_at l i) ≡ false
 
-pub missed_start : (l : List (RulesOption ℕ)) (t : ℕ) → Missed l t 0
-missed_start l t = record { below = λ i k. absurd (omega arith) }
-
 module _ (l : List (RulesOption ℕ)) (t m : ℕ) (p : Missed l t m) where
   module _ (o : Option Moment) (r : Bool) (eo : moment_no o ≡ held_at l m) (er : r ≡ has_moment t (moment_no o)) where
-    pub missed_turn : r ≡ false → Missed l t (m + 1)
-    missed_turn z = record { below = λ i k. go i k (ℕ_discrete i m) }
-      where
-        go : (i : ℕ) → i < m + 1 → Dec (i ≡ m) → has_moment t (held_at l i) ≡ false
-        go i k (yes q) = ap (λ j. has_moment t (held_at l j)) q ∙ ap (has_moment t) (sym eo) ∙ sym er ∙ z
-        go i k (no q) = p.below i (omega (arith, q))
-
     pub machine_found : r ≡ true → machine_of (Some m) ≡ slot_at t l
     unfolding machine_of
     machine_found z = sym (slot_first l t m p.below (ap (has_moment t) (sym eo) ∙ sym er ∙ z))
@@ -112,14 +100,14 @@ module _ (l : List (RulesOption ℕ)) (t m : ℕ) (p : Missed l t m) where
 -- ---- the client first
 
 module _ (f : SideState → List (RulesOption ℕ)) (s : State) (t : Moment) (x : Option ℕ) (ex : machine_of x ≡ slot_at t.0 (f s.client)) where
-  pub due_client : (m : ℕ) → x ≡ Some m → DueIn f s t.0 (Some (record { client = true; machine = m; moment = t }))
+  pub due_client : (m : ℕ) (k : m < 16) → x ≡ Some m → DueIn f s t.0 (Some (record { client = true; machine = m; moment = t; known = k }))
   unfolding machine_of due_of DueWhen
-  due_client m e = record { when = refl; is = ap (λ o. slot_of o (slot_at t.0 (f s.server))) (ap machine_of (sym e) ∙ ex) }
+  due_client m k e = record { when = refl; is = ap (λ o. slot_of o (slot_at t.0 (f s.server))) (ap machine_of (sym e) ∙ ex) }
 
   module _ (ne : x ≡ None) (y : Option ℕ) (ey : machine_of y ≡ slot_at t.0 (f s.server)) where
-    pub due_server : (m : ℕ) → y ≡ Some m → DueIn f s t.0 (Some (record { client = false; machine = m; moment = t }))
+    pub due_server : (m : ℕ) (k : m < 16) → y ≡ Some m → DueIn f s t.0 (Some (record { client = false; machine = m; moment = t; known = k }))
     unfolding machine_of due_of DueWhen
-    due_server m e = record { when = refl; is = (λ d. slot_of ((ap machine_of (sym ne) ∙ ex) d) ((ap machine_of (sym e) ∙ ey) d)) }
+    due_server m k e = record { when = refl; is = (λ d. slot_of ((ap machine_of (sym ne) ∙ ex) d) ((ap machine_of (sym e) ∙ ey) d)) }
 
     pub due_none : y ≡ None → DueIn f s t.0 None
     unfolding machine_of due_of DueWhen
@@ -150,19 +138,6 @@ unfolding Below
 slot_below [] t = tt
 slot_below (o ∷ l) t = below_next (length l) t o l (slot_below l t)
 
-OneOf : RulesOption Slot → Type 0
-OneOf none = Unit {0}
-OneOf (some z) = z.machine < 16
-
-slots_below : (o p : RulesOption ℕ) → Below 16 o → Below 16 p → OneOf (slot_of o p)
-unfolding Below OneOf
-slots_below (some m) p l k = l
-slots_below none (some n) l k = k
-slots_below none none l k = tt
-
-pub due_one :
-    (f : SideState → List (RulesOption ℕ)) (s : State) (t : ℕ) (r : Option Due) (d : Due) → length (f s.client) ≡ 16 → length (f s.server) ≡ 16 → DueIn f s t r → r ≡ Some d → d.machine < 16
-unfolding OneOf due_of
-due_one f s t r d ec er p e =
-    subst OneOf (sym (ap due_of (sym e) ∙ p.is))
-    (slots_below (slot_at t (f s.client)) (slot_at t (f s.server)) (subst (λ n. Below n (slot_at t (f s.client))) ec (slot_below (f s.client) t)) (subst (λ n. Below n (slot_at t (f s.server))) er (slot_below (f s.server) t)))
+pub machine_below : (l : List (RulesOption ℕ)) (t : ℕ) (x : Option ℕ) (m : ℕ) → length l ≡ 16 → machine_of x ≡ slot_at t l → x ≡ Some m → m < 16
+unfolding Below machine_of
+machine_below l t x m n e z = let k : Below 16 (machine_of (Some m)) = subst (Below 16) (sym e ∙ ap machine_of z) (subst (λ i. Below i (slot_at t l)) n (slot_below l t)) in k

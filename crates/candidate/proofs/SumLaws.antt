@@ -7,9 +7,10 @@ use mathlib.Core.Option.{none}
 use native.Mathlib.Omega.{arith}
 use lib.Dec.{leb, ltb}
 use lib.ListN.{get_or}
-use borrow.Author.Tests.{not-true, not-false, lt-leb, leb-true, leb-false}
+use borrow.Author.Tests.{not-true, lt-leb, leb-false}
 use Rattle.std.proofs.lemmas.Grind.{common_steps}
 use Rattle.std.specs.Prelude.{nat_lt, if◌then◌else◌, Option, Some, None}
+use Rattle.rules.specs.State.{SideState}
 use Rattle.rules.specs.Limits.{moment_limit, duration_limit}
 use Rattle.rules.specs.Aggregates.{base_moment, on_expire, aggregates_of, some_sum}
 use Rattle.rules.specs.ChoiceHeads.{waiting_head}
@@ -62,15 +63,11 @@ pub reporting_within : (h : List ℕ) (b : Bool) (w : ℕ) → Limited h → w �
 reporting_within h true w l e = rw e (l 6 (omega arith))
 reporting_within h false w l e = rw e (l 7 (omega arith))
 
-pub network_within : (h : List ℕ) → Limited h → get_or h 0 0 ≤ duration_limit
-network_within h l = l 0 (omega arith)
-
 -- ---- the base head plus the sum
 
-pub base_sum : (h rs : List ℕ) (b : Bool) (sum : ℕ) (o : Option Moment) (r : Bool) → sum ≡ get_or h (10 + side_no (side_of b)) 0 → moment_no o ≡ base_moment sum (side_held h rs b).queues.base
-    → r ≡ fits (some_sum (moment_no o)) → r ≡ fits (some_sum (base_moment (side_held h rs b).sum (side_held h rs b).queues.base))
-base_sum h rs b sum o r es eo er =
-    er ∙ ap (λ x. fits (some_sum x)) (eo ∙ ap (λ n. base_moment n (side_held h rs b).queues.base) (es ∙ sym (sum_held h rs (side_of b))))
+pub base_sum : (x : SideState) (sum : ℕ) (o : Option Moment) (r : Bool) → sum ≡ x.sum → moment_no o ≡ base_moment sum x.queues.base
+    → r ≡ fits (some_sum (moment_no o)) → r ≡ fits (some_sum (base_moment x.sum x.queues.base))
+base_sum x sum o r es eo er = er ∙ ap (λ y. fits (some_sum y)) (eo ∙ ap (λ n. base_moment n x.queues.base) es)
 
 -- ---- the sums of every round
 
@@ -109,10 +106,10 @@ module _ (h rs : List ℕ) (b : Bool) (end : ℕ) (f : Option Head) (p : Peeked 
     pub held_late : r ≡ true → none ≡ held_up_length (side_held h rs b) end (waiting_head false (side_held h rs b))
     held_late t = sym (ap (λ (x : Bool). if not x then on_expire (side_held h rs b) end w.moment.0 else none) t) ∙ held_is
 
-    pub held_by : (sum : ℕ) (m : Margins) (d : Option Length) → r ≡ false → sum ≡ get_or h (10 + side_no (side_of b)) 0 → m ≡ usual_margins
+    pub held_by : (sum : ℕ) (m : Margins) (d : Option Length) → r ≡ false → sum ≡ (side_held h rs b).sum → m ≡ usual_margins
         → delayed_of d ≡ expire_over m sum (side_held h rs b) end w.moment.0 → delayed_of d ≡ held_up_length (side_held h rs b) end (waiting_head false (side_held h rs b))
     held_by sum m d t es em ed =
-        ed ∙ ap₂ (λ (x : Margins) (n : ℕ). expire_over x n (side_held h rs b) end w.moment.0) em (es ∙ sym (sum_held h rs (side_of b)))
+        ed ∙ ap₂ (λ (x : Margins) (n : ℕ). expire_over x n (side_held h rs b) end w.moment.0) em es
         ∙ expire_usual (side_held h rs b) end w.moment.0
         ∙ sym (ap (λ (x : Bool). if not x then on_expire (side_held h rs b) end w.moment.0 else none) t) ∙ held_is
 
@@ -124,9 +121,6 @@ module _ (h : List ℕ) (a : AggregateDelay) (x : Bool) (ex : x ≡ leb a.length
   raised_long f rs =
       let l : moment_limit < a.length.0 = leb-false a.length.0 moment_limit (sym ex ∙ not-true x f) in
       sym (ap (λ (y : Bool). y && true) (lt-leb (raised_sum (state_from h rs) (aggregate_in a)) moment_limit (omega arith)))
-
-  pub raised_fits : (b : Bool) (s : ℕ) → s ≡ get_or h (10 + side_no (side_of b)) 0 → not x ≡ false → Limited h → s + a.length.0 < 2 ^ 64
-  raised_fits b s es f l = omega (arith, sum_within h b s l es, leb-true a.length.0 moment_limit (sym ex ∙ not-false x f))
 
 pub raised_sum_lem : (h : List ℕ) (a : AggregateDelay) (s n : ℕ) (r : Bool) → s ≡ get_or h (10 + side_no (side_of a.client)) 0 → n ≡ s + a.length.0 → r ≡ leb n moment_limit
     → (rs : List ℕ) → r ≡ fits (raised_sum (state_from h rs) (aggregate_in a) ∷ [])

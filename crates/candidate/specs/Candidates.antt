@@ -55,9 +55,9 @@ unfoldable pub Stands : List ℕ → List ℕ → Candidate → Type 0
 Stands h rs (Aggregate a) = 0 < count_of h 11
 Stands h rs (Block k by) = (side (state_from h rs) (side_of k.client)).block_end ≡ some k.end.0
 Stands h rs (Event x) = HeadOk h rs x.event.client x
-Stands h rs (Timer d) = d.machine < 16
+Stands h rs (Timer d) = Unit {0}
 Stands h rs (TheAction p) =
-    (p.machine < 16) × (action_in (state_from h rs) (planned_slot p) ≡ some (action_value p.action)) × (p.action.kind.0 ≡ slot_kind h p.client p.machine)
+    (action_in (state_from h rs) (planned_slot p) ≡ some (action_value p.action)) × (p.action.kind.0 ≡ slot_kind h p.client p.machine)
 
 -- what the test at a block's end finds, where the round is made at the time t
 abbrev pub held_up_at : State → ℕ → EndingBlock → RulesOption ℕ

@@ -1,8 +1,7 @@
 // Which of the five a round takes up: the first that fits.
-ghost use Rattle.std.specs.Prelude.{◌≡◌, false as no, Option as CodeOption, ◌≤◌};
+ghost use Rattle.std.specs.Prelude.{◌≡◌, false as no};
 ghost use mathlib.Core.List.{head?};
 ghost use Rattle.std.proofs.Math.Option.{Option};
-ghost use Rattle.rules.specs.Limits.{moment_limit};
 ghost use Rattle.rules.specs.ChoiceHeads.{Head as RulesHead, waiting_head};
 ghost use Rattle.rules.specs.ChoiceDelays.{delays as delays_at, next_block};
 ghost use Rattle.rules.specs.ChoiceDelays.{offered as offered_at};
@@ -16,15 +15,15 @@ ghost use Rattle.candidate.specs.Promises.{PickedIn, TakenUpIn};
 ghost use Rattle.candidate.specs.Promises.{Ahead, later_fitting};
 
 use crate::{Candidate, slots};
-use moment::{Length, Moment};
+use moment::{Length, Moment, Time};
 use queue::peek::Head;
 use queue::{View, header, peek};
-use queue_event::read;
 use queue_peek::five::Delays;
-use queue_peek::not_later;
 use queue_peek::slots::{Actions, Timers};
+use queue_peek::{Slotted, not_later};
 
-// An aggregate goes before what is as early. Each comparison is two words: `&` has no branch, so the proof has one path.
+// An aggregate goes before what is as early. Each comparison is two words: `&` has no branch; with `&&` the value comes by several paths, each of which the
+// proof takes apart.
 fn aggregate_first(d: Delays) -> bool
     ensures { result ≡ aggregate_first (delays_of d) }
 {
@@ -49,24 +48,19 @@ fn event_first(d: Delays) -> bool
 fn aggregate_candidate(view: &View) -> Option<Candidate>
     ensures { PickedIn view.now.words result (or_none an_aggregate (head? (state_in view.now.words).aggregates)) }
 {
-    if view.words.count(header::AGGREGATES) == 0 {
-        return None;
-    }
-    let first = view.words.first(header::AGGREGATES);
-    Some(Candidate::Aggregate(read::aggregate_at(view.words.records, first)))
+    let first = view.head(header::AGGREGATES)?;
+    Some(Candidate::Aggregate(first.aggregate()))
 }
 
 // What the test at a block's end finds.
 fn held_up(view: &View, client: bool, end: Moment) -> Option<Length>
     ensures { delayed_of result ≡ held_up_length (side_in view.now.words client) end.0 (waiting_head no (side_in view.now.words client)) }
 {
-    let Some(h) = peek::peek_blocking(view, false, client) else {
-        return None;
-    };
+    let h = peek::peek_blocking(view, false, client)?;
     if h.moment >= end {
         return None;
     }
-    let sum = Length(view.words.of_side(header::SUM, client));
+    let sum = delay::sum(view, client);
     delay::agg_delay_on_blocking_expire(view, client, end, h.moment, sum, delay::usual())
 }
 
@@ -74,9 +68,7 @@ fn held_up(view: &View, client: bool, end: Moment) -> Option<Length>
 fn block_candidate(view: &View, time: Moment) -> Option<Candidate>
     ensures { TakenUpIn view.now.words time.0 result (or_none a_block (next_block (state_in view.now.words))) }
 {
-    let Some(k) = queue_peek::next_block(&view.words) else {
-        return None;
-    };
+    let k = queue_peek::next_block(&view.words)?;
     let end = k.end.max(time);
     let by = held_up(view, k.client, end);
     Some(Candidate::Block(k, by))
@@ -86,23 +78,18 @@ fn block_candidate(view: &View, time: Moment) -> Option<Candidate>
 fn event_candidate(found: Option<Head>) -> Option<Candidate>
     ensures { (v : Words) (o : Option RulesHead) → PeekedBothIn v found o → PickedIn v result (or_none an_event o) }
 {
-    let Some(h) = found else {
-        return None;
-    };
+    let h = found?;
     Some(Candidate::Event(h))
 }
 
-// The timer that is due after the delay.
+// The timer that is due after the delay. It has two lines in common with the action's: one function for both would need a definition of its own, of a
+// slot that is due after a delay, and is no shorter.
 fn timer_candidate(view: &View, i: Option<Length>, time: Moment) -> Option<Candidate>
     requires { Ahead time.0 (delay_of i) }
     ensures { PickedIn view.now.words result (due_timer (state_in view.now.words) time.0 (delay_of i)) }
 {
-    let Some(l) = i else {
-        return None;
-    };
-    let Some(d) = slots::due::<Timers>(&view.words, time.plus(l)) else {
-        return None;
-    };
+    let l = i?;
+    let d = slots::due::<Timers>(&Slotted::of(view), time.plus(l))?;
     Some(Candidate::Timer(d))
 }
 
@@ -111,42 +98,36 @@ fn action_candidate(view: &View, s: Option<Length>, time: Moment) -> Option<Cand
     requires { Ahead time.0 (delay_of s) }
     ensures { PickedIn view.now.words result (due_action (state_in view.now.words) time.0 (delay_of s)) }
 {
-    let Some(l) = s else {
-        return None;
-    };
-    let Some(d) = slots::due::<Actions>(&view.words, time.plus(l)) else {
-        return None;
-    };
+    let l = s?;
+    let d = slots::due::<Actions>(&Slotted::of(view), time.plus(l))?;
     slots::planned(&view.words, d)
 }
 
 // The last three of the five.
-fn later_candidate(view: &View, d: Delays, time: Moment) -> Option<Candidate>
-    requires time_small { time.0 ≤ moment_limit }
-    requires delays_here { delays_of d ≡ delays_at (state_in view.now.words) time.0 }
-    requires head_here { PeekedBothIn view.now.words d.found (offered_at (state_in view.now.words) time.0) }
-    ensures { PickedIn view.now.words result (later_fitting (state_in view.now.words) time.0 (delays_of d)) }
+fn later_candidate(view: &View, d: Delays, time: Time) -> Option<Candidate>
+    requires delays_here { delays_of d ≡ delays_at (state_in view.now.words) time.at.0 }
+    requires head_here { PeekedBothIn view.now.words d.found (offered_at (state_in view.now.words) time.at.0) }
+    ensures { PickedIn view.now.words result (later_fitting (state_in view.now.words) time.at.0 (delays_of d)) }
 {
     if event_first(d) {
         return event_candidate(d.found);
     }
     if not_later(d.i, d.s) {
-        return timer_candidate(view, d.i, time);
+        return timer_candidate(view, d.i, time.at);
     }
-    action_candidate(view, d.s, time)
+    action_candidate(view, d.s, time.at)
 }
 
 // What a round takes up.
-pub fn candidate(view: &View, time: Moment) -> Option<Candidate>
-    requires { time.0 ≤ moment_limit }
-    ensures { TakenUpIn view.now.words time.0 result (candidate_at (state_in view.now.words) time.0) }
+pub fn candidate(view: &View, time: Time) -> Option<Candidate>
+    ensures { TakenUpIn view.now.words time.at.0 result (candidate_at (state_in view.now.words) time.at.0) }
 {
     let d = queue_peek::delays(view, time);
     if aggregate_first(d) {
         return aggregate_candidate(view);
     }
     if block_first(d) {
-        return block_candidate(view, time);
+        return block_candidate(view, time.at);
     }
     later_candidate(view, d, time)
 }

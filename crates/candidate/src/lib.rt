@@ -1,6 +1,8 @@
 // What a round of a choice takes up: the candidate, and the sums that number 10 looks at.
 #![tactic(auto)]
 
+ghost use Rattle.std.specs.Prelude.{◌<◌};
+
 use event::{AggregateDelay, ScheduledAction};
 use moment::{Length, Moment};
 use queue::peek::Head;
@@ -16,6 +18,7 @@ pub struct Due {
     pub client: bool,
     pub machine: u64,
     pub moment: Moment,
+    pub ghost known: { machine < 16 },
 }
 
 // An action that is due: its side and machine, and what it is.
@@ -24,6 +27,7 @@ pub struct Planned {
     pub client: bool,
     pub machine: u64,
     pub action: ScheduledAction,
+    pub ghost known: { machine < 16 },
 }
 
 // What a round takes up.

@@ -1,37 +1,35 @@
 // The slots of both sides: the lowest machine whose slot has a moment, and an action read from its three words.
-ghost use Rattle.std.specs.Prelude.{◌≡◌, ◌/◌, ◌%◌, ◌<◌};
+ghost use Rattle.std.specs.Prelude.{◌≡◌, ◌/◌, ◌%◌, ℕ, List};
 ghost use Rattle.rules.specs.ChoiceRound.{slot_at, action_from};
 ghost use Rattle.queue_event.specs.Tag.{flag};
-ghost use Rattle.layout.specs.Header.{Limited, SlotsOk};
-ghost use Rattle.queue.specs.Views.{moment_no, state_in, side_in};
+ghost use Rattle.layout.specs.Layout.{state_from};
+ghost use Rattle.queue.specs.Heads.{side_held};
+ghost use Rattle.queue.specs.Views.{moment_no};
 ghost use Rattle.candidate.specs.Candidates.{due_slot};
-ghost use Rattle.candidate.specs.Promises.{has_moment, machine_of, DueIn, PickedIn};
+ghost use Rattle.candidate.specs.Promises.{has_moment, machine_of, DueIn, Picked};
 
 use crate::{Candidate, Due, Planned};
 use event::{ActionKind, ScheduledAction};
 use moment::{Length, Moment};
 use queue::{Words, header};
+use queue_peek::Slotted;
 use queue_peek::slots::Slots;
 
 // Whether what a slot holds has the moment.
+#[tactic(auto, using(crate::proofs::SlotLaws::has_none, crate::proofs::SlotLaws::has_some))]
 fn has_moment(held: Option<Moment>, moment: Moment) -> bool
     ensures { result ≡ has_moment moment.0 (moment_no held) }
 {
-    let Some(m) = held else {
-        return false;
-    };
-    m == moment
+    held.is_some_and(|m| m == moment)
 }
 
 // The lowest machine of a side whose slot has the moment. No slot above its machines holds one.
-pub fn machine_at<S: Slots>(words: &Words, client: bool, moment: Moment) -> Option<u64>
-    requires limits { Limited words.now.header.now }
-    requires slots { SlotsOk words.now.header.now }
-    ensures { machine_of result ≡ slot_at moment.0 (S.moments (side_in words.now client)) }
+pub fn machine_at<S: Slots>(slotted: &Slotted, client: bool, moment: Moment) -> Option<u64>
+    ensures { (rs : List ℕ) → machine_of result ≡ slot_at moment.0 (S.moments (side_held slotted.now.words.header.now rs client)) }
 {
-    let machines = words.of_side(header::MACHINES, client);
+    let machines = slotted.words.of_side(header::MACHINES, client);
     for m in 0..machines {
-        if has_moment(S::moment(words, client, m), moment) {
+        if has_moment(S::moment(&slotted.words, client, m), moment) {
             return Some(m);
         }
     }
@@ -39,21 +37,17 @@ pub fn machine_at<S: Slots>(words: &Words, client: bool, moment: Moment) -> Opti
 }
 
 // The slot that is due at the moment: the client's first, then the lowest machine's.
-pub fn due<S: Slots>(words: &Words, moment: Moment) -> Option<Due>
-    requires limits { Limited words.now.header.now }
-    requires slots { SlotsOk words.now.header.now }
-    ensures { DueIn S.moments (state_in words.now) moment.0 result }
+pub fn due<S: Slots>(slotted: &Slotted, moment: Moment) -> Option<Due>
+    ensures { (rs : List ℕ) → DueIn S.moments (state_from slotted.now.words.header.now rs) moment.0 result }
 {
-    if let Some(machine) = machine_at::<S>(words, true, moment) {
+    if let Some(machine) = machine_at::<S>(slotted, true, moment) {
         return Some(Due {
             client: true,
             machine,
             moment,
         });
     }
-    let Some(machine) = machine_at::<S>(words, false, moment) else {
-        return None;
-    };
+    let machine = machine_at::<S>(slotted, false, moment)?;
     Some(Due {
         client: false,
         machine,
@@ -76,8 +70,7 @@ fn action_of(word: u64, moment: u64, duration: u64) -> ScheduledAction
 
 // The action in a slot as what a round takes up; nothing where the slot is empty.
 pub fn planned(words: &Words, d: Due) -> Option<Candidate>
-    requires { d.machine < 16 }
-    ensures { PickedIn words.now result (action_from (state_in words.now) (due_slot d)) }
+    ensures { (rs : List ℕ) → Picked words.now.header.now rs result (action_from (state_from words.now.header.now rs) (due_slot d)) }
 {
     let at = header::ACTIONS + 3 * header::slot(d.client, d.machine);
     let word = words.header[at];

@@ -1,10 +1,9 @@
 // The sums that number 10 looks at: those of every round, and those of what it takes up.
-ghost use Rattle.std.specs.Prelude.{◌≡◌, List, [], ◌∷◌, ℕ, ◌+◌, ◌≤◌};
+ghost use Rattle.std.specs.Prelude.{◌≡◌, List, [], ◌∷◌, ℕ, ◌+◌, ◌^◌, ◌<◌, ◌≤◌};
 ghost use Rattle.rules.specs.Limits.{moment_limit, duration_limit};
 ghost use Rattle.rules.specs.Aggregates.{base_moment, some_sum};
 ghost use Rattle.rules.specs.ChoiceRound.{fits, always_sums, candidate_sums, raised_sum, action_sums, a_block};
 ghost use Rattle.event.specs.HandedIn.{aggregate_in};
-ghost use Rattle.layout.specs.Accepted.{Good};
 ghost use Rattle.layout.specs.Header.{Limited};
 ghost use Rattle.layout.specs.Layout.{state_from};
 ghost use Rattle.queue.specs.Heads.{side_held};
@@ -15,16 +14,17 @@ ghost use Rattle.candidate.specs.Candidates.{action_value, candidate_of, held_up
 
 use crate::{Candidate, Planned};
 use event::{ActionKind, AggregateDelay};
-use moment::{Length, Moment};
+use moment::{Length, Moment, Span, Time};
 use network::aggregate;
 use queue::{View, Words, header};
+use queue_peek::Slotted;
 use queue_peek::blocks::BlockEnd;
 
 // The base head of a side plus its sum.
 fn base_fits(view: &View, client: bool) -> bool
     ensures { result ≡ fits (some_sum (base_moment (side_in view.now.words client).sum (side_in view.now.words client).queues.base)) }
 {
-    let base_sum = Length(view.words.of_side(header::SUM, client));
+    let base_sum = delay::sum(view, client);
     aggregate::base_fits(delay::base_moment(view, client, base_sum))
 }
 
@@ -36,35 +36,37 @@ pub fn always_fits(view: &View) -> bool
 }
 
 // An aggregate's length on top of its side's sum. A length above the limit is not added.
-fn aggregate_fits(words: &Words, a: AggregateDelay) -> bool
-    requires { Limited words.now.header.now }
-    ensures { (rs : List ℕ) → result ≡ fits (raised_sum (state_from words.now.header.now rs) (aggregate_in a) ∷ []) }
+fn aggregate_fits(slotted: &Slotted, a: AggregateDelay) -> bool
+    ensures { (rs : List ℕ) → result ≡ fits (raised_sum (state_from slotted.now.words.header.now rs) (aggregate_in a) ∷ []) }
 {
     if !a.length.fits_sum() {
         return false;
     }
-    let sum = Length(words.of_side(header::SUM, a.client));
+    let sum = Length(slotted.words.of_side(header::SUM, a.client));
     sum.plus(a.length).fits_sum()
 }
 
 // The moment of `BlockingEnd`, and those of the two aggregates where `by` is what the test finds.
-fn block_fits(words: &Words, time: Moment, k: BlockEnd, by: Option<Length>) -> bool
-    requires limits { Limited words.now.header.now }
-    requires time_small { time.0 ≤ moment_limit }
-    requires end_small { k.end.0 ≤ moment_limit }
-    ensures { (rs : List ℕ) → delayed_of by ≡ held_up_at (state_from words.now.header.now rs) time.0 (block_from k)
-        → result ≡ fits (candidate_sums (state_from words.now.header.now rs) time.0 (a_block (block_from k))) }
+fn block_fits(slotted: &Slotted, time: Time, k: BlockEnd, by: Option<Length>) -> bool
+    requires { k.end.0 ≤ moment_limit }
+    ensures { (rs : List ℕ) → delayed_of by ≡ held_up_at (state_from slotted.now.words.header.now rs) time.at.0 (block_from k)
+        → result ≡ fits (candidate_sums (state_from slotted.now.words.header.now rs) time.at.0 (a_block (block_from k))) }
 {
-    let end = k.end.max(time);
-    let reporting = Length(words.of_side(header::REPORTING_DELAY, k.client));
-    end.plus(reporting).fits() && aggregate::fit(Length(words.header[0]), k.client, end, by)
+    let end = Time {
+        at: k.end.max(time.at),
+    };
+    let reporting = Length(slotted.words.of_side(header::REPORTING_DELAY, k.client));
+    let delay = Span {
+        length: Length(slotted.words.header[0]),
+    };
+    end.at.plus(reporting).fits() && aggregate::fit(delay, k.client, end, by)
 }
 
 // Action and reporting delay of a side together.
 pub fn both_delays(words: &Words, client: bool) -> Length
-    requires { Limited words.now.header.now }
+    requires { (side_in words.now client).fixed.action_delay + (side_in words.now client).fixed.reporting_delay < 2 ^ 64 }
     ensures is { (rs : List ℕ) → result.0 ≡ (side_held words.now.header.now rs client).fixed.action_delay + (side_held words.now.header.now rs client).fixed.reporting_delay }
-    ensures small { result.0 ≤ duration_limit + duration_limit }
+    ensures small { Limited words.now.header.now → result.0 ≤ duration_limit + duration_limit }
 {
     let action = Length(words.of_side(header::ACTION_DELAY, client));
     let reporting = Length(words.of_side(header::REPORTING_DELAY, client));
@@ -72,11 +74,10 @@ pub fn both_delays(words: &Words, client: bool) -> Length
 }
 
 // The end of a block that an action sets, and the moment of `BlockingBegin`.
-fn action_fits(words: &Words, p: Planned) -> bool
-    requires limits { Limited words.now.header.now }
+fn action_fits(slotted: &Slotted, p: Planned) -> bool
     requires moment_small { p.action.moment.0 ≤ moment_limit }
     requires duration_small { p.action.duration.0 ≤ duration_limit }
-    ensures { (rs : List ℕ) → result ≡ fits (action_sums (action_value p.action).kind (side_held words.now.header.now rs p.client) (action_value p.action)) }
+    ensures { (rs : List ℕ) → result ≡ fits (action_sums (action_value p.action).kind (side_held slotted.now.words.header.now rs p.client) (action_value p.action)) }
 {
     let a = p.action;
     if a.kind.0 == ActionKind::SEND_PADDING {
@@ -85,21 +86,20 @@ fn action_fits(words: &Words, p: Planned) -> bool
     if !a.moment.plus(a.duration).fits() {
         return false;
     }
-    a.moment.plus(both_delays(words, p.client)).fits()
+    a.moment.plus(both_delays(&slotted.words, p.client)).fits()
 }
 
 // The sums of what the round takes up.
-pub fn candidate_fits(words: &Words, time: Moment, c: Candidate) -> bool
-    requires time_small { time.0 ≤ moment_limit }
-    requires stands { (rs : List ℕ) × (Good words.now.header.now rs × Stands words.now.header.now rs c) }
-    ensures { (rs : List ℕ) → Reckoned words.now.header.now rs time.0 c
-        → result ≡ fits (candidate_sums (state_from words.now.header.now rs) time.0 (candidate_of words.now.header.now c)) }
+pub fn candidate_fits(slotted: &Slotted, time: Time, c: Candidate) -> bool
+    requires { (rs : List ℕ) × Stands slotted.now.words.header.now rs c }
+    ensures { (rs : List ℕ) → Reckoned slotted.now.words.header.now rs time.at.0 c
+        → result ≡ fits (candidate_sums (state_from slotted.now.words.header.now rs) time.at.0 (candidate_of slotted.now.words.header.now c)) }
 {
     match c {
-        Candidate::Aggregate(a) => aggregate_fits(words, a),
-        Candidate::Block(k, by) => block_fits(words, time, k, by),
+        Candidate::Aggregate(a) => aggregate_fits(slotted, a),
+        Candidate::Block(k, by) => block_fits(slotted, time, k, by),
         Candidate::Event(_) => true,
         Candidate::Timer(_) => true,
-        Candidate::Action(p) => action_fits(words, p),
+        Candidate::Action(p) => action_fits(slotted, p),
     }
 }

@@ -14,16 +14,16 @@ use Rattle.rules.specs.Basics.{Side}
 use Rattle.rules.specs.State.{Event, Held, SideState, side}
 use Rattle.rules.specs.Aggregates.{any_within, waiting, base_moment}
 use Rattle.rules.specs.Limits.{moment_limit}
-use Rattle.queue_event.specs.Words.{In, next_of, moment_of}
-use Rattle.queue_event.specs.Chain.{Chain, Node, nodes, rec_at, recs, contents, pick}
+use Rattle.queue_event.specs.Words.{moment_of}
+use Rattle.queue_event.specs.Chain.{Node, nodes, rec_at, recs, pick}
 use Rattle.queue_event.specs.Order.{Sorted}
 use Rattle.queue_event.specs.Folds.{later, latest_of, any_within as any_rec}
-use Rattle.layout.specs.Records.{head_of, count_of, Fit}
+use Rattle.layout.specs.Records.{head_of, count_of, chain_at, Fit}
 use Rattle.layout.specs.Accepted.{Good}
 use Rattle.layout.specs.Layout.{state_from, chains, held_event, event_from}
 use Rattle.layout.specs.Changes.{side_no}
-use Rattle.queue_event.proofs.Laws.{chain_in, chain_next, nodes_next}
-use Rattle.queue_event.proofs.Folds.{sorted_next}
+use Rattle.queue_event.proofs.Laws.{nodes_next}
+use Rattle.queue_event.proofs.Folds.{sorted_rest}
 use Rattle.layout.proofs.Banks.{chains_at}
 use Rattle.layout.proofs.TwoChains.{queue_built}
 use Rattle.layout.proofs.Counts.{length_map, length_nodes}
@@ -37,44 +37,31 @@ use Rattle.delay.specs.Tests.{without, Packets}
 
 -- ---- the chains of a side, as they stand in the words
 
--- chain k is linked
-pub chain_linked : (h rs : List ℕ) (k n f : ℕ) → Good h rs → k ≤ 10 → f ≡ head_of h k → n ≡ count_of h k → Chain rs k n f
-chain_linked h rs k n f g l ef en = rw (ef, en) (g.chains k (omega arith)).links
+tail_map : {A B : Type 0} (f : A → B) (xs : List A) → tail (map f xs) ≡ map f (tail xs)
+tail_map f [] = refl
+tail_map f (x ∷ xs) = refl
 
-pub head_there : (h rs : List ℕ) (k n f : ℕ) → Good h rs → k ≤ 10 → f ≡ head_of h k → n ≡ count_of h k → (n ≡ 0 → ⊥) → In rs f
-head_there h rs k n f g l ef en p = chain_in rs k n f (omega arith) (chain_linked h rs k n f g l ef en)
-
-pub rest_linked : (h rs : List ℕ) (k n f x : ℕ) → Good h rs → k ≤ 10 → f ≡ head_of h k → n ≡ count_of h k → (n ≡ 0 → ⊥) → x ≡ next_of rs f → Chain rs k (n - 1) x
-rest_linked h rs k n f x g l ef en p ex = rw ex (chain_next rs k n f (omega arith) (chain_linked h rs k n f g l ef en))
-
--- and in order
-pub chain_sorted :
-    (h rs : List ℕ) (z : Side) (q : Queue) (k n f : ℕ) → Good h rs → k ≡ queue_no q + 5 * side_no z → k ≤ 10 → f ≡ head_of h k → n ≡ count_of h k → Sorted (nodes rs n f)
-chain_sorted h rs z q k n f g ek l ef en = rw (ef, en) (ordered_sorted k 0 0 _ (omega (arith, queue_range q)) (g.chains k (omega arith)).order)
-
-pub rest_sorted :
-    (h rs : List ℕ) (z : Side) (q : Queue) (k n f x : ℕ) → Good h rs → k ≡ queue_no q + 5 * side_no z → k ≤ 10 → f ≡ head_of h k → n ≡ count_of h k → (n ≡ 0 → ⊥) → x ≡ next_of rs f
-    → Sorted (nodes rs (n - 1) x)
-rest_sorted h rs z q k n f x g ek l ef en p ex = rw ex (sorted_next rs n f (omega arith) (chain_sorted h rs z q k n f g ek l ef en))
-
--- what a queue of a side holds
-module _ (h rs : List ℕ) (z : Side) (q : Queue) (k n f : ℕ) (ek : k ≡ queue_no q + 5 * side_no z) (l : k ≤ 10) (ef : f ≡ head_of h k) (en : n ≡ count_of h k) where
-  pub held_is : held_in (side (state_from h rs) z) q ≡ map (held_event z) (nodes rs n f)
+-- k is the chain of the side's queue q
+module _ (h rs : List ℕ) (z : Side) (q : Queue) (k : ℕ) (ek : k ≡ queue_no q + 5 * side_no z) (l : k ≤ 10) where
+  -- what it holds
+  held_is : held_in (side (state_from h rs) z) q ≡ map (held_event z) (chain_at h rs k)
   unfolding held_in
-  held_is =
-      let e : chains h rs k ≡ nodes rs n f = rw (ef, en) (chains_at h rs k (omega arith)) in
-      queue_built h rs z (queue_of q) ∙ ap (λ i. map (held_event z) (chains h rs i)) (chain_number q z ∙ sym ek) ∙ ap (map (held_event z)) e
+  held_is = queue_built h rs z (queue_of q) ∙ ap (λ i. map (held_event z) (chains h rs i)) (chain_number q z ∙ sym ek) ∙ ap (map (held_event z)) (chains_at h rs k (omega arith))
 
-  pub behind_is : 0 < n → behind_in (side (state_from h rs) z) q ≡ map (held_event z) (nodes rs (n - 1) (next_of rs f))
-  unfolding behind_in
-  behind_is p = ap tail held_is ∙ ap (λ x. tail (map (held_event z) x)) (nodes_next rs n f p)
+  held_length : length (held_in (side (state_from h rs) z) q) ≡ count_of h k
+  held_length = ap length held_is ∙ length_map (held_event z) (chain_at h rs k) ∙ length_nodes rs (count_of h k) (head_of h k)
 
-  pub behind_none : n ≡ 0 → behind_in (side (state_from h rs) z) q ≡ []
-  unfolding behind_in nodes
-  behind_none p = ap tail held_is ∙ ap (λ m. tail (map (held_event z) (nodes rs m f))) p
+  module _ (xs : List Node) (e : xs ≡ chain_at h rs k) where
+    -- in order
+    pub chain_sorted : Good h rs → Sorted xs
+    chain_sorted g = rw e (ordered_sorted k 0 0 _ (omega (arith, queue_range q)) (g.chains k (omega arith)).order)
 
-  pub held_length : length (held_in (side (state_from h rs) z) q) ≡ n
-  held_length = ap length held_is ∙ length_map (held_event z) (nodes rs n f) ∙ length_nodes rs n f
+    pub rest_sorted : Good h rs → (y : Node) (ys : List Node) → xs ≡ y ∷ ys → Sorted ys
+    rest_sorted g y ys ey = sorted_rest y xs ys ey (chain_sorted g)
+
+    behind_is : behind_in (side (state_from h rs) z) q ≡ map (held_event z) (tail xs)
+    unfolding behind_in
+    behind_is = ap tail held_is ∙ ap (λ x. tail (map (held_event z) x)) (sym e) ∙ tail_map (held_event z) xs
 
 -- ---- folds over records, and the rules' over events
 
@@ -96,21 +83,21 @@ latest_map z from width best (x ∷ l) =
 
 -- ---- any_in, any_behind, latest_in
 
-module _ (h rs : List ℕ) (z : Side) (q : Queue) (k n f : ℕ) (ek : k ≡ queue_no q + 5 * side_no z) (l : k ≤ 10) (ef : f ≡ head_of h k) (en : n ≡ count_of h k) (from width : ℕ) where
-  pub any_held : (r : Bool) → r ≡ any_rec from width (contents rs n f) → r ≡ any_in width from (held_in (side (state_from h rs) z) q)
-  any_held r e = e ∙ any_map z from width (nodes rs n f) ∙ ap (any_in width from) (sym (held_is h rs z q k n f ek l ef en))
+module _ (h rs : List ℕ) (z : Side) (q : Queue) (k : ℕ) (ek : k ≡ queue_no q + 5 * side_no z) (l : k ≤ 10) (xs : List Node) (e : xs ≡ chain_at h rs k) (from width : ℕ) where
+  pub any_held : (r : Bool) → r ≡ any_rec from width (recs xs) → r ≡ any_in width from (held_in (side (state_from h rs) z) q)
+  any_held r er = er ∙ any_map z from width xs ∙ ap (λ x. any_in width from (map (held_event z) x)) e ∙ ap (any_in width from) (sym (held_is h rs z q k ek l))
 
-  pub any_rest : (x : ℕ) (r : Bool) → (n ≡ 0 → ⊥) → x ≡ next_of rs f → r ≡ any_rec from width (contents rs (n - 1) x) → r ≡ any_in width from (behind_in (side (state_from h rs) z) q)
-  any_rest x r p ex e =
-      (rw ex at e) ∙ any_map z from width (nodes rs (n - 1) (next_of rs f)) ∙ ap (any_in width from) (sym (behind_is h rs z q k n f ek l ef en (omega arith)))
+  pub any_rest : (y : Node) (ys : List Node) (r : Bool) → xs ≡ y ∷ ys → r ≡ any_rec from width (recs ys) → r ≡ any_in width from (behind_in (side (state_from h rs) z) q)
+  any_rest y ys r ey er =
+      er ∙ any_map z from width ys ∙ ap (λ x. any_in width from (map (held_event z) (tail x))) (sym ey) ∙ ap (any_in width from) (sym (behind_is h rs z q k ek l xs e))
 
-  pub latest_held : (best r : ℕ) → r ≡ latest_of from width best (contents rs n f) → r ≡ tail_over width from best (held_in (side (state_from h rs) z) q)
-  latest_held best r e = e ∙ latest_map z from width best (nodes rs n f) ∙ ap (tail_over width from best) (sym (held_is h rs z q k n f ek l ef en))
+  -- an empty chain has nothing behind its head
+  pub any_empty : xs ≡ [] → false ≡ any_in width from (behind_in (side (state_from h rs) z) q)
+  unfolding any_in
+  any_empty en = ap (λ x. any_in width from (map (held_event z) (tail x))) (sym en) ∙ ap (any_in width from) (sym (behind_is h rs z q k ek l xs e))
 
--- an empty chain has nothing behind its head, whatever its first record
-pub any_empty : (h rs : List ℕ) (z : Side) (q : Queue) (k n from width : ℕ) → k ≡ queue_no q + 5 * side_no z → k ≤ 10 → n ≡ count_of h k → n ≡ 0 → false ≡ any_in width from (behind_in (side (state_from h rs) z) q)
-unfolding any_in
-any_empty h rs z q k n from width ek l en p = sym (ap (any_in width from) (behind_none h rs z q k n (head_of h k) ek l refl en p))
+  pub latest_held : (best r : ℕ) → r ≡ latest_of from width best (recs xs) → r ≡ tail_over width from best (held_in (side (state_from h rs) z) q)
+  latest_held best r er = er ∙ latest_map z from width best xs ∙ ap (λ x. tail_over width from best (map (held_event z) x)) e ∙ ap (tail_over width from best) (sym (held_is h rs z q k ek l))
 
 -- ---- adjacent, beside
 
@@ -191,7 +178,7 @@ module _ (h rs : List ℕ) (z : Side) (j k n m : ℕ) (ej : j ≡ 2 + 5 * side_n
   unfolding held_in
   waiting_long =
       length-append (held_in (side (state_from h rs) z) Blocking) (held_in (side (state_from h rs) z) Bypassable)
-      ∙ ap₂ ◌+◌ (held_length h rs z Blocking j n (head_of h j) ej lj refl en) (held_length h rs z Bypassable k m (head_of h k) ek lk refl em)
+      ∙ ap₂ ◌+◌ (held_length h rs z Blocking j ej lj ∙ sym en) (held_length h rs z Bypassable k ek lk ∙ sym em)
 
   pub tail_few : n + m < 3 → u ≡ burst_tail_over width (side (state_from h rs) z) u
   unfolding burst_tail_over
@@ -204,22 +191,23 @@ module _ (h rs : List ℕ) (z : Side) (j k n m : ℕ) (ej : j ≡ 2 + 5 * side_n
 
 -- ---- base_moment
 
-module _ (h rs : List ℕ) (z : Side) (k n : ℕ) (ek : k ≡ 1 + 5 * side_no z) (l : k ≤ 10) (en : n ≡ count_of h k) where
-  pub base_none : (sum : ℕ) → n ≡ 0 → none ≡ base_moment sum (side (state_from h rs) z).queues.base
+module _ (h rs : List ℕ) (z : Side) (k : ℕ) (ek : k ≡ 1 + 5 * side_no z) (l : k ≤ 10) where
+  pub base_none : (sum : ℕ) → count_of h k ≡ 0 → none ≡ base_moment sum (side (state_from h rs) z).queues.base
   unfolding held_in nodes
   base_none sum p =
-      sym (ap (base_moment sum) (held_is h rs z Base k n (head_of h k) ek l refl en) ∙ ap (λ x. base_moment sum (map (held_event z) (nodes rs x (head_of h k)))) p)
+      sym (ap (base_moment sum) (held_is h rs z Base k ek l) ∙ ap (λ x. base_moment sum (map (held_event z) (nodes rs x (head_of h k)))) p)
 
-  module _ (f m : ℕ) (ef : f ≡ head_of h k) (p : n ≡ 0 → ⊥) (em : m ≡ moment_of rs f) where
+  -- the first record, f of the words rs'
+  module _ (rs' : List ℕ) (f m : ℕ) (p : 0 < count_of h k) (ef : f ≡ head_of h k) (er : rs' ≡ rs) (em : m ≡ moment_of rs' f) where
     pub base_some : (sum r : ℕ) → r ≡ m + sum → some r ≡ base_moment sum (side (state_from h rs) z).queues.base
     unfolding held_in rec_at event_from
-    base_some sum r er =
-        rw (er, em) (sym (ap (base_moment sum) (held_is h rs z Base k n f ek l ef en ∙ ap (map (held_event z)) (nodes_next rs n f (omega arith)))))
+    base_some sum r e =
+        rw (e, em, er, ef) (sym (ap (base_moment sum) (held_is h rs z Base k ek l ∙ ap (map (held_event z)) (nodes_next rs (count_of h k) (head_of h k) p))))
 
     base_moment_lem : Good h rs → m ≤ moment_limit
     unfolding Fit rec_at
     base_moment_lem g =
-        rw (em, ef) ((rw (nodes_next rs (count_of h k) (head_of h k) (omega arith)) at (g.chains k (omega arith)).fit).0.event (omega arith) (omega arith)).moments
+        rw (em, er, ef) ((rw (nodes_next rs (count_of h k) (head_of h k) p) at (g.chains k (omega arith)).fit).0.event (omega arith) (omega arith)).moments
 
     pub base_fits : (sum : ℕ) → Good h rs → sum ≤ moment_limit → m + sum < 2 ^ 64
     base_fits sum g s = omega (arith, base_moment_lem g)

@@ -2,15 +2,13 @@
 // What stands for each type in the rules is in specs/Tests; that the tests are the rules' own at the usual margins, in proofs/Rules.
 #![tactic(auto)]
 
-ghost use Rattle.std.specs.Prelude.{◌≡◌, ◌≤◌};
+ghost use Rattle.std.specs.Prelude.{◌≡◌};
 ghost use Rattle.rules.specs.Aggregates.{base_moment, within};
-ghost use Rattle.rules.specs.Limits.{moment_limit};
 ghost use Rattle.queue.specs.Views.{side_in, moment_no};
 ghost use Rattle.delay.specs.Tests.{delayed_of, usual_margins, without, Packets, expire_over, replace_over, delayed_over, sums_over, TestedAs, AskedAs};
 
-use moment::{Length, Moment};
-use queue::{Queue, View};
-use queue_event::words;
+use moment::{Length, Moment, Sum};
+use queue::{Queue, View, header};
 
 pub mod waiting;
 
@@ -46,19 +44,22 @@ pub fn usual() -> Margins
     }
 }
 
-// The moment of the base head of a side, plus a sum.
-pub fn base_moment(view: &View, client: bool, sum: Length) -> Option<Moment>
-    requires { sum.0 ≤ moment_limit }
-    ensures { moment_no result ≡ base_moment sum.0 (side_in view.now.words client).queues.base }
+// The sum of a side's delays, as the header has it.
+#[tactic(auto, using(queue::proofs::HeadsSides::sum_held))]
+pub fn sum(view: &View, client: bool) -> Sum
+    ensures { result.length.0 ≡ (side_in view.now.words client).sum }
 {
-    let k = Queue::Base.chain(client);
-    let count = view.words.count(k);
-    if count == 0 {
-        return None;
+    Sum {
+        length: Length(view.words.of_side(header::SUM, client)),
     }
-    let first = view.words.first(k);
-    let moment = Moment(words::get(view.words.records, first, 1));
-    Some(moment.plus(sum))
+}
+
+// The moment of the base head of a side, plus a sum.
+pub fn base_moment(view: &View, client: bool, sum: Sum) -> Option<Moment>
+    ensures { moment_no result ≡ base_moment sum.length.0 (side_in view.now.words client).queues.base }
+{
+    let first = view.head(Queue::Base.chain(client))?;
+    Some(first.moment().plus(sum.length))
 }
 
 // Whether the base head is at most the margin since `from`.
@@ -74,11 +75,10 @@ pub fn agg_delay_on_blocking_expire(
     client: bool,
     end: Moment,
     from: Moment,
-    sum: Length,
+    sum: Sum,
     margins: Margins,
 ) -> Option<Length>
-    requires { sum.0 ≤ moment_limit }
-    ensures { delayed_of result ≡ expire_over margins sum.0 (side_in view.now.words client) end.0 from.0 }
+    ensures { delayed_of result ≡ expire_over margins sum.length.0 (side_in view.now.words client) end.0 from.0 }
 {
     let tail = waiting::burst_tail(view, client, from, margins.buffer);
     if end == tail || base_within(base_moment(view, client, sum), from, margins.base) {
@@ -94,14 +94,13 @@ pub fn agg_delay_on_padding_bypass_replace(
     client: bool,
     time: Moment,
     from: Moment,
-    sum: Length,
+    sum: Sum,
     margins: Margins,
 ) -> Tested
-    requires fact_1 { sum.0 ≤ moment_limit }
-    requires fact_2 { Packets of }
+    requires { Packets of }
     ensures { TestedAs result
-        (replace_over margins sum.0 (without (side_in view.now.words client) of) time.0 from.0)
-        (sums_over margins sum.0 (without (side_in view.now.words client) of) from.0) }
+        (replace_over margins sum.length.0 (without (side_in view.now.words client) of) time.0 from.0)
+        (sums_over margins sum.length.0 (without (side_in view.now.words client) of) from.0) }
 {
     if waiting::beside(view, of, client, from, margins.adjacent) {
         return Tested {
@@ -124,13 +123,12 @@ pub fn should_delayed_packet_prop_agg_delay(
     view: &View,
     client: bool,
     from: Moment,
-    sum: Length,
+    sum: Sum,
     margins: Margins,
 ) -> Asked
-    requires { sum.0 ≤ moment_limit }
     ensures { AskedAs result
-        (delayed_over margins sum.0 (side_in view.now.words client) from.0)
-        (sums_over margins sum.0 (side_in view.now.words client) from.0) }
+        (delayed_over margins sum.length.0 (side_in view.now.words client) from.0)
+        (sums_over margins sum.length.0 (side_in view.now.words client) from.0) }
 {
     if waiting::adjacent(view, client, from, margins.adjacent) {
         return Asked {

@@ -7,20 +7,13 @@ ghost use Rattle.delay.specs.Waiting.{held_in, behind_in, any_in, tail_over, bur
 
 use moment::{Length, Moment};
 use queue::{Queue, View};
-use queue_event::{window, words};
 
 // Whether an event of a side's queue is at most the margin since `from`.
 fn any_in(view: &View, of: Queue, client: bool, from: Moment, margin: Length) -> bool
     ensures { result ≡ any_in margin.0 from.0 (held_in (side_in view.now.words client) of) }
 {
     let k = of.chain(client);
-    window::any_within(
-        view.words.records,
-        view.words.first(k),
-        view.words.count(k),
-        from,
-        margin,
-    )
+    view.chain(k).any_within(from, margin)
 }
 
 // The same of those behind the head of the queue.
@@ -28,13 +21,11 @@ fn any_behind(view: &View, of: Queue, client: bool, from: Moment, margin: Length
     ensures { result ≡ any_in margin.0 from.0 (behind_in (side_in view.now.words client) of) }
 {
     let k = of.chain(client);
-    let count = view.words.count(k);
-    if count == 0 {
+    let mut behind = view.chain(k);
+    let Some(_) = behind.next() else {
         return false;
-    }
-    let first = view.words.first(k);
-    let next = words::get(view.words.records, first, 0);
-    window::any_within(view.words.records, next, count - 1, from, margin)
+    };
+    behind.any_within(from, margin)
 }
 
 // Whether a waiting packet of the side is at most the margin since `from`.
@@ -69,23 +60,18 @@ fn latest_in(
     ensures { result.0 ≡ tail_over margin.0 from.0 best.0 (held_in (side_in view.now.words client) of) }
 {
     let k = of.chain(client);
-    window::latest(
-        view.words.records,
-        view.words.first(k),
-        view.words.count(k),
-        from,
-        margin,
-        best,
-    )
+    view.chain(k).latest(from, margin, best)
 }
 
 // The tail of the burst that waits since `from`; it takes three packets to look for it.
 pub fn burst_tail(view: &View, client: bool, from: Moment, margin: Length) -> Moment
     ensures { result.0 ≡ burst_tail_over margin.0 (side_in view.now.words client) from.0 }
 {
-    let blocking = view.words.count(Queue::Blocking.chain(client));
-    let bypassable = view.words.count(Queue::Bypassable.chain(client));
-    if blocking + bypassable < 3 {
+    let blocking = view.words.entry(Queue::Blocking.chain(client)).count;
+    let bypassable = view.words.entry(Queue::Bypassable.chain(client)).count;
+    // saturating, since a view says nothing of how many records it has
+    let packets = blocking.saturating_add(bypassable);
+    if packets < 3 {
         return from;
     }
     let tail = latest_in(view, Queue::Blocking, client, from, margin, from);

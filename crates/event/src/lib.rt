@@ -10,7 +10,7 @@ pub mod answer;
 
 use moment::{Length, Moment};
 
-// The kind of an event. It may hold any number, so that one above the limit can be refused.
+// The kind of an event: no enum, since any number may be handed in, and one above the limit is refused by its number.
 #[derive(Clone, Copy)]
 pub struct Kind(pub u64);
 
@@ -69,7 +69,7 @@ impl Kind {
     }
 }
 
-// The kind of an action. It may hold any number, `Cancel` (0) and `UpdateTimer` (3) too.
+// The kind of an action: any number too, `Cancel` (0) and `UpdateTimer` (3) among them.
 #[derive(Clone, Copy)]
 pub struct ActionKind(pub u64);
 

@@ -94,11 +94,6 @@ module _ (h rs : List ℕ) (v : ℕ) (whole : length h ≡ 256) where
   timer_store j l = λ d.
       build (bank_out 0 24 h (64 + j) v (inr (omega arith)) d) (bank_in 64 32 h j v l (omega arith) d) (bank_out 96 96 h (64 + j) v (inl (omega arith)) d) (chains_out h rs (64 + j) v (inr (omega arith)) d) (length rs / 4)
 
-  pub action_store : (j : ℕ) → j < 96 → state_from (set h (96 + j) v) rs ≡ build (bank 0 24 h) (bank 64 32 h) (upd (bank 96 96 h) j v) (chains h rs) (length rs / 4)
-  unfolding state_from
-  action_store j l = λ d.
-      build (bank_out 0 24 h (96 + j) v (inr (omega arith)) d) (bank_out 64 32 h (96 + j) v (inr (omega arith)) d) (bank_in 96 96 h j v l (omega arith) d) (chains_out h rs (96 + j) v (inr (omega arith)) d) (length rs / 4)
-
   -- ---- the laws, one for each word that a call writes
 
   pub rounds_law : state_from (set h 17 v) rs ≡ with_rounds (state_from h rs) v

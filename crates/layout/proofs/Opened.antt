@@ -266,6 +266,3 @@ module _ (o : Opening) (n : ℕ) (fine : open_refusal n o ≡ none) where
   opened_state =
       ap₂ state_from (opened_head o n) (opened_rest o n) ∙ state_built o n
       ∙ (λ d. opened (reread o n (rate_back o.settings.network_rate settings_ok.network_rate_fits d) (rate_back o.settings.queue_rate settings_ok.queue_rate_fits d)) n)
-
-  pub opened_size : length (opened_words o n) ≡ n
-  opened_size = opened_length o n ∙ sym length_is

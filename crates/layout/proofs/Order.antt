@@ -7,7 +7,7 @@ use native.Mathlib.Omega.{arith}
 use lib.Dec.{ltb, eqb}
 use borrow.Author.Tests.{ltb-true, ltb-false, eqb-true, eqb-false, not-true, not-false}
 use Rattle.std.specs.Prelude.{if◌then◌else◌}
-use Rattle.rules.specs.Basics.{before, Side, has_machine, is_tunnel_sent, rank}
+use Rattle.rules.specs.Basics.{before, Side, has_machine, rank}
 use Rattle.rules.specs.Queueing.{chain_for, insert}
 use Rattle.rules.specs.State.{base, blocking, bypassable, internal}
 use Rattle.queue_event.specs.Chain.{pick, rank_of, Node}
@@ -33,10 +33,7 @@ rank_kind (suc (suc (suc (suc (suc (suc (suc (suc zero)))))))) l = refl
 rank_kind (suc (suc (suc (suc (suc (suc (suc (suc (suc zero))))))))) l = refl
 rank_kind (suc (suc (suc (suc (suc (suc (suc (suc (suc (suc n)))))))))) l = absurd (omega arith)
 
--- what the rules say kind by kind, by the kind's number: whether it is `TunnelSent`, whether it has a machine, and its chain
-pub sent_kind : (n : ℕ) → n < 10 → is_tunnel_sent (kind_at n) ≡ eqb n 0
-sent_kind = by_kind (λ n. is_tunnel_sent (kind_at n) ≡ eqb n 0) refl refl refl refl refl refl refl refl refl refl
-
+-- what the rules say kind by kind, by the kind's number: whether it has a machine, and its chain
 pub machine_kind : (n : ℕ) → n < 10 → has_machine (kind_at n) ≡ (eqb n 2 || eqb n 6 || ltb 7 n)
 machine_kind = by_kind (λ n. has_machine (kind_at n) ≡ (eqb n 2 || eqb n 6 || ltb 7 n)) refl refl refl refl refl refl refl refl refl refl
 

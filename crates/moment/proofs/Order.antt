@@ -1,5 +1,5 @@
 -- The order of moments and lengths, which is that of their numbers. Assumes nothing.
-use Rattle.std.proofs.Common.{ℕ, ◌≡◌, Bool, not, ltb, leb, max}
+use Rattle.std.proofs.Common.{ℕ, ◌≡◌, not, ltb, leb, max}
 use Rattle.std.proofs.lemmas.Grind.{common_steps}
 use Rattle.std.specs.Ordering.{is_lt, is_le, is_ge, nat_cmp, ord_max}
 use Rattle.moment.specs.declared.Moment.{Moment}

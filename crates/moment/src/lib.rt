@@ -10,6 +10,27 @@ pub struct Moment(pub u64);
 #[derive(Clone, Copy, PartialEq, Eq, PartialOrd, Ord)]
 pub struct Length(pub u64);
 
+// A moment within the limit, as a call's time is once it is tested.
+#[derive(Clone, Copy)]
+pub struct Time {
+    pub at: Moment,
+    pub ghost within: { at.0 ≤ moment_limit },
+}
+
+// A side's sum of delays, which may be added to any moment within the limit.
+#[derive(Clone, Copy)]
+pub struct Sum {
+    pub length: Length,
+    pub ghost within: { length.0 ≤ moment_limit },
+}
+
+// A delay or a window of the settings: no longer than a duration may be.
+#[derive(Clone, Copy)]
+pub struct Span {
+    pub length: Length,
+    pub ghost within: { length.0 ≤ duration_limit },
+}
+
 impl Moment {
     // 2^62 - 1, for moments, sums, the lengths of aggregates and the round total.
     pub const LIMIT: u64 = 4_611_686_018_427_387_903;
@@ -49,7 +70,7 @@ impl Moment {
         Moment(self.0 - l.0)
     }
 
-    // Whether it is too early to be moved back so far.
+    // Whether it is too early to be moved back so far: a named operation, since a moment and a length have no common order.
     pub fn too_early(self, l: Length) -> bool
         ensures { result ≡ ltb self.0 l.0 }
     {

@@ -1,12 +1,12 @@
 -- Laws of a step of `PaddingSent`: its plan as the code makes it, and the rules' step by that plan. Assumes nothing.
-use Prim.Native.Nat.{ℕ, ◌+◌, ◌≤◌}
+use Prim.Native.Nat.{ℕ, ◌≤◌}
 use mathlib.Core.Path.{◌≡◌, refl, sym, ap, ap₂, ◌∙◌, subst}
 use mathlib.Core.Bool.{Bool, true, false, ◌&&◌}
 use mathlib.Core.List.{List}
 use mathlib.Core.Logic.{◌⊎◌, inl, inr}
 use mathlib.Core.Option.{Option as RulesOption, none, some}
 use native.Mathlib.Omega.{arith}
-use lib.ListN.{length, get_or}
+use lib.ListN.{length}
 use Rattle.std.specs.Prelude.{if◌then◌else◌, Option, Some, None}
 use Rattle.rules.specs.Basics.{Side, client, server}
 use Rattle.rules.specs.State.{Event, SideState, State, side, with_side}
@@ -25,9 +25,7 @@ use Rattle.queue.specs.Heads.{head_from, found_of, side_held, HeadOk, Peeked}
 use Rattle.delay.specs.declared.Margins.{Margins}
 use Rattle.delay.specs.declared.Tested.{Tested}
 use Rattle.delay.specs.Tests.{delayed_of, usual_margins, without, Packets, replace_over, sums_over, TestedAs}
-use Rattle.layout.specs.Changes.{side_no}
 use Rattle.queue.proofs.HeadsOrder.{stands_at}
-use Rattle.queue.proofs.HeadsSides.{sum_held}
 use Rattle.delay.proofs.Rules.{replace_usual, sums_usual}
 use Rattle.network.specs.declared.padding.Replaced.{Replaced}
 use Rattle.network.specs.declared.padding.Padding.{Padding}
@@ -82,20 +80,17 @@ without_sum : (x : SideState) (q : Queue) → x.sum ≡ (without x q).sum
 unfolding without
 without_sum x q = refl
 
-pub replaced : (h rs : List ℕ) (c : Bool) (now sum : ℕ) (y : HeadFound) (m : Margins) (t : Tested) → m ≡ usual_margins → sum ≡ get_or h (10 + side_no (side_of c)) 0
-    → TestedAs t (replace_over m sum (without (side (state_from h rs) (side_of c)) y.queue) now y.event.moment.0) (sums_over m sum (without (side (state_from h rs) (side_of c)) y.queue) y.event.moment.0)
-    → TakenAs (record { head = y; by = t.by; base = t.base }) (side (state_from h rs) (side_of c)) now y
+pub replaced : (z : SideState) (now sum : ℕ) (y : HeadFound) (m : Margins) (t : Tested) → m ≡ usual_margins → sum ≡ z.sum
+    → TestedAs t (replace_over m sum (without z y.queue) now y.event.moment.0) (sums_over m sum (without z y.queue) y.event.moment.0)
+    → TakenAs (record { head = y; by = t.by; base = t.base }) z now y
 unfolding padding_of taken_over head_from
-replaced h rs c now sum y m t em es et = record { is = ap₂ (takes (head_from y)) found formed; head = refl }
+replaced z now sum y m t em es et = record { is = ap₂ (takes (head_from y)) found formed; head = refl }
   where
     x : SideState
-    x = without (side (state_from h rs) (side_of c)) y.queue
+    x = without z y.queue
 
     same : sum ≡ x.sum
-    same = es ∙ sym (sum_held h rs (side_of c)) ∙ kept
-      where
-        kept : (side (state_from h rs) (side_of c)).sum ≡ x.sum
-        kept = without_sum (side (state_from h rs) (side_of c)) y.queue
+    same = es ∙ without_sum z y.queue
 
     found : delayed_of t.by ≡ on_replace x now y.event.moment.0
     found = et.found ∙ ap₂ (λ a b. replace_over a b x now y.event.moment.0) em same ∙ replace_usual x now y.event.moment.0

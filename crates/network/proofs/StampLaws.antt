@@ -3,6 +3,7 @@ use Prim.Native.Nat.{ℕ, zero, suc, ◌+◌, ◌-◌, ◌*◌, ◌/◌, ◌≤�
 use mathlib.Core.Path.{◌≡◌, refl, sym, ap, ◌∙◌}
 use mathlib.Core.Bool.{Bool, true, false, not}
 use mathlib.Core.List.{List, [], ◌∷◌, map}
+use mathlib.Core.Logic.{◌⊎◌, inl, inr}
 use mathlib.Core.Option.{Option as RulesOption, none, some}
 use native.Mathlib.Nat.{mul-le-mul, div-le_self}
 use native.Mathlib.Omega.{arith}
@@ -17,14 +18,14 @@ use Rattle.rules.specs.State.{Held, side}
 use Rattle.rules.specs.Limits.{duration_limit}
 use Rattle.rules.specs.NetworkStep.{stamps_kept, extra_over, rate_of}
 use Rattle.moment.specs.declared.Length.{Length}
-use Rattle.queue_event.specs.Words.{In, next_of, moment_of}
-use Rattle.queue_event.specs.Chain.{nodes, rec_at}
-use Rattle.layout.specs.Records.{head_of, count_of}
+use Rattle.queue_event.specs.Words.{moment_of}
+use Rattle.queue_event.specs.Chain.{Node, rec_at}
+use Rattle.queue_event.specs.Frame.{node}
+use Rattle.layout.specs.Records.{head_of, count_of, chain_at}
 use Rattle.layout.specs.Accepted.{Good}
 use Rattle.layout.specs.Layout.{state_from, chains, held_stamp, unless_zero}
 use Rattle.layout.specs.Changes.{side_no}
 use Rattle.queue.specs.Stamps.{stale_count}
-use Rattle.queue_event.proofs.Laws.{chain_in, chain_next, nodes_next}
 use Rattle.layout.proofs.Banks.{chains_at}
 use Rattle.layout.proofs.Counts.{length_map, length_nodes}
 use Rattle.network.specs.Stamps.{limit_of, Above, RatedAs, evicted_count, Ages, FilledAs}
@@ -94,64 +95,56 @@ stamps_built h rs client = refl
 stamps_built h rs server = refl
 
 module _ (h rs : List ℕ) (z : Side) (k : ℕ) (ek : k ≡ 5 + 5 * side_no z) (lk : k ≤ 10) where
-  stamps_are : (n f : ℕ) → n ≡ count_of h k → f ≡ head_of h k → (side (state_from h rs) z).stamps ≡ map held_stamp (nodes rs n f)
-  stamps_are n f en ef =
-      let e : chains h rs k ≡ nodes rs n f = rw (ef, en) (chains_at h rs k (omega arith)) in
-      stamps_built h rs z ∙ ap (λ j. map held_stamp (chains h rs j)) (sym ek) ∙ ap (map held_stamp) e
+  stamps_are : (side (state_from h rs) z).stamps ≡ map held_stamp (chain_at h rs k)
+  stamps_are = stamps_built h rs z ∙ ap (λ j. map held_stamp (chains h rs j)) (sym ek) ∙ ap (map held_stamp) (chains_at h rs k (omega arith))
 
-  pub stamps_long : (n : ℕ) → n ≡ count_of h k → length (side (state_from h rs) z).stamps ≡ n
-  stamps_long n en = ap length (stamps_are n (head_of h k) en refl) ∙ length_map held_stamp (nodes rs n (head_of h k)) ∙ length_nodes rs n (head_of h k)
+  pub stamps_long : length (side (state_from h rs) z).stamps ≡ count_of h k
+  stamps_long = ap length stamps_are ∙ length_map held_stamp (chain_at h rs k) ∙ length_nodes rs (count_of h k) (head_of h k)
 
-  pub stale_is : (n f w now gone : ℕ) → n ≡ count_of h k → f ≡ head_of h k → gone ≡ stale_count w now (map held_stamp (nodes rs n f)) → gone ≡ evicted_count w now (side (state_from h rs) z).stamps
-  stale_is n f w now gone en ef e = e ∙ ap (stale_count w now) (sym (stamps_are n f en ef)) ∙ stale_count_lem w now (side (state_from h rs) z).stamps
+  stale_is : (xs : List Node) (w now gone : ℕ) → xs ≡ chain_at h rs k → gone ≡ stale_count w now (map held_stamp xs) → gone ≡ evicted_count w now (side (state_from h rs) z).stamps
+  stale_is xs w now gone e eg = eg ∙ ap (λ x. stale_count w now (map held_stamp x)) e ∙ ap (stale_count w now) (sym stamps_are) ∙ stale_count_lem w now (side (state_from h rs) z).stamps
 
--- ---- the loop
+-- ---- the walk
 
-module _ (rs : List ℕ) (w now goal count h gone : ℕ) where
-  pub ages_in : gone < count → Ages rs w now goal (count - gone) h gone → In rs h
-  ages_in p a = chain_in rs a.mark (count - gone) h (omega arith) a.chain
+pub ages_start :
+    (h rs : List ℕ) (z : Side) (k : ℕ) → k ≡ 5 + 5 * side_no z → k ≤ 10 → (xs : List Node) (w now n : ℕ) → xs ≡ chain_at h rs k → n ≡ count_of h k
+    → Ages w now (evicted_count w now (side (state_from h rs) z).stamps) n 0 xs
+ages_start h rs z k ek lk xs w now n e en =
+    record { rest = omega (arith, stale_is h rs z k ek lk xs w now (stale_count w now (map held_stamp xs)) e refl); all = omega (arith, ap length e, length_nodes rs (count_of h k) (head_of h k), en) }
 
-  module _ (b : Bool) (p : gone < count) (eb : b ≡ ltb w (now - moment_of rs h)) (a : Ages rs w now goal (count - gone) h gone) where
-    ages_step : gone + (if b then suc (stale_count w now (map held_stamp (nodes rs (count - gone - 1) (next_of rs h)))) else 0) ≡ goal
+module _ (w now goal count gone : ℕ) (l x : List Node) (a : Ages w now goal count gone l) where
+  none_left : gone ≡ count → count ≡ goal
+  none_left e = go l a (omega (arith, a.all))
+    where
+      go : (k : List Node) → Ages w now goal count gone k → length k ≡ 0 → count ≡ goal
+      go [] b z = omega (arith, b.rest)
+      go (y ∷ k) b z = absurd (omega arith)
+
+  -- one of the two that are walked together, the numbers and the chain, has ended
+  pub ages_end : {A B : Type 0} {P : A → Type 0} {Q : B → Type 0} → (e : ℕ) → e ≡ count → ((u : A) × P u) ⊎ ((v : B) × Q v) → ((u : A) → P u → e - gone ≡ 0) → ((v : B) → Q v → l ≡ []) → count ≡ goal
+  ages_end e ee (inl s) f g = none_left (omega (arith, f s.0 s.1, a.all))
+  ages_end e ee (inr s) f g = none_left (omega (arith, a.all, ap length (g s.0 s.1)))
+
+  -- the first of what is left is record r of rs
+  module _ (rs rs' : List ℕ) (r m i : ℕ) (b : Bool) (e : l ≡ node rs r ∷ x) (er : rs' ≡ rs) (ei : i ≡ gone) (em : m ≡ moment_of rs' r) (eb : b ≡ ltb w (now - m)) where
+    ages_step : gone + (if b then suc (stale_count w now (map held_stamp x)) else 0) ≡ goal
     unfolding rec_at
-    ages_step = let q : 0 < count - gone = omega arith in rw eb (rw (nodes_next rs (count - gone) h q) at a.rest)
+    ages_step = ap (λ c. gone + (if c then suc (stale_count w now (map held_stamp x)) else 0)) (rw (em, er) at eb) ∙ ap (λ y. gone + stale_count w now (map held_stamp y)) (sym e) ∙ a.rest
 
-    pub ages_stop : b ≡ false → gone ≡ goal
-    ages_stop t = let e = rw t at ages_step in omega (arith, e)
+    pub ages_stop : b ≡ false → i ≡ goal
+    ages_stop t = let s = rw t at ages_step in omega (arith, s)
 
-    pub ages_turn : (h' : ℕ) → b ≡ true → h' ≡ next_of rs h → Ages rs w now goal (count - (gone + 1)) h' (gone + 1)
-    ages_turn h' t eh =
-        let less : count - (gone + 1) ≡ count - gone - 1 = omega arith in
-        rw (eh, less) (record {
-          mark = a.mark;
-          chain = chain_next rs a.mark (count - gone) h (omega arith) a.chain;
-          rest = let e = rw t at ages_step in omega (arith, e);
-        })
-
-ages_end : (rs : List ℕ) (w now goal count h gone : ℕ) → gone ≤ count → count ≤ gone → Ages rs w now goal (count - gone) h gone → count ≡ goal
-unfolding nodes
-ages_end rs w now goal count h gone l m a =
-    let z : count - gone ≡ 0 = omega arith in
-    let e : gone + stale_count w now (map held_stamp (nodes rs 0 h)) ≡ goal = ap (λ i. gone + stale_count w now (map held_stamp (nodes rs i h))) (sym z) ∙ a.rest in omega (arith, e)
-
--- ---- what it counts, as the rules have it
-
-module _ (hd rs : List ℕ) (z : Side) (k n f w now : ℕ) (ek : k ≡ 5 + 5 * side_no z) (lk : k ≤ 10) (en : n ≡ count_of hd k) (ef : f ≡ head_of hd k) where
-  module _ (h gone : ℕ) (a : Ages rs w now (stale_count w now (map held_stamp (nodes rs n f))) (n - gone) h gone) where
-    pub count_end : gone ≤ n → n ≤ gone → n ≡ evicted_count w now (side (state_from hd rs) z).stamps
-    count_end l m = stale_is hd rs z k ek lk n f w now n en ef (ages_end rs w now _ n h gone l m a)
-
-    pub count_stop : (b : Bool) → gone < n → b ≡ ltb w (now - moment_of rs h) → b ≡ false → gone ≡ evicted_count w now (side (state_from hd rs) z).stamps
-    count_stop b p eb t = stale_is hd rs z k ek lk n f w now gone en ef (ages_stop rs w now _ n h gone b p eb a t)
+    pub ages_turn : (j : ℕ) → b ≡ true → j ≡ gone + 1 → Ages w now goal count j x
+    ages_turn j t ej = let s = rw t at ages_step in record { rest = omega (arith, s); all = omega (arith, a.all, ap length e) }
 
 -- ---- fill
 
 module _ (h rs : List ℕ) (z : Side) (k n w now gone : ℕ) (g : Good h rs) (ek : k ≡ 5 + 5 * side_no z) (lk : k ≤ 10) (en : n ≡ count_of h k) (eg : gone ≡ evicted_count w now (side (state_from h rs) z).stamps) where
   left_is : n - gone ≡ length (stamps_kept w now (side (state_from h rs) z).stamps)
-  left_is = omega (arith, evict_le w now (side (state_from h rs) z).stamps, stamps_long h rs z k ek lk n en)
+  left_is = omega (arith, evict_le w now (side (state_from h rs) z).stamps, stamps_long h rs z k ek lk, en)
 
   pub gone_le : gone ≤ n
-  gone_le = omega (arith, stamps_long h rs z k ek lk n en)
+  gone_le = omega (arith, stamps_long h rs z k ek lk, en)
 
   pub left_le : length rs ≤ 262140 → n - gone + 1 ≤ 65536
   left_le l = omega (arith, (g.chains k (omega arith)).count)

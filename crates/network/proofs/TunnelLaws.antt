@@ -1,5 +1,5 @@
 -- Laws of a step of `TunnelSent`: its plan as the code makes it, and the rules' step by that plan. Assumes nothing.
-use Prim.Native.Nat.{ℕ, ◌+◌, ◌≤◌, ◌<◌}
+use Prim.Native.Nat.{ℕ, ◌+◌, ◌<◌}
 use mathlib.Core.Path.{◌≡◌, refl, sym, ap, ap₂, ◌∙◌}
 use mathlib.Core.Bool.{Bool, true, false, ◌&&◌, not}
 use mathlib.Core.List.{List, [], ◌∷◌, ◌++◌}
@@ -12,15 +12,16 @@ use Rattle.std.specs.Prelude.{if◌then◌else◌, Option, None}
 use Rattle.std.specs.Bool.{then_some}
 use Rattle.rules.specs.Basics.{Side, client, server, other, TunnelRecv}
 use Rattle.rules.specs.State.{Event, SideState, State, side}
-use Rattle.rules.specs.Limits.{moment_limit, duration_limit}
+use Rattle.rules.specs.Limits.{moment_limit}
 use Rattle.rules.specs.Aggregates.{aggregates_of, on_delayed, test_sums, some_sum}
 use Rattle.rules.specs.ChoiceRound.{fits}
 use Rattle.rules.specs.NetworkStep.{stamps_kept, extra_over, packet, rate_of, reported, stamp, step_tunnel}
 use Rattle.moment.specs.declared.Length.{Length}
+use Rattle.moment.specs.declared.Span.{Span}
+use Rattle.moment.specs.declared.Sum.{Sum}
 use Rattle.moment.specs.declared.Moment.{Moment}
 use Rattle.event.specs.declared.SimEvent.{SimEvent}
 use Rattle.event.specs.HandedIn.{side_of}
-use Rattle.layout.specs.Header.{Limited}
 use Rattle.layout.specs.Layout.{bank, state_from, unless_zero}
 use Rattle.event.specs.Values.{event_value}
 use Rattle.queue.specs.Views.{moment_no}
@@ -59,6 +60,10 @@ tunnel_sums_lem s now e = ap (λ r. fits r.sums) (sym (tunnel_step_lem s now e))
 word_at : (h : List ℕ) (i : ℕ) → i < 24 → get_or h (0 + i) 0 ≡ bank 0 24 h i
 word_at h i l = sym (bank_at 0 24 h i l)
 
+pub network_held : (h rs : List ℕ) → get_or h 0 0 ≡ (state_from h rs).settings.network_delay
+unfolding state_from
+network_held h rs = word_at h 0 (lit< tt)
+
 module _ (h rs : List ℕ) (c : Bool) where
   reporting_held : get_or h (6 + side_no (side_of (not c))) 0 ≡ (side (state_from h rs) (other (side_of c))).fixed.reporting_delay
   unfolding state_from
@@ -68,28 +73,17 @@ module _ (h rs : List ℕ) (c : Bool) where
       go true = word_at h 7 (lit< tt)
       go false = word_at h 6 (lit< tt)
 
-  reporting_small : Limited h → get_or h (6 + side_no (side_of (not c))) 0 ≤ duration_limit
-  reporting_small l = go c
-    where
-      go : (b : Bool) → get_or h (6 + side_no (side_of (not b))) 0 ≤ duration_limit
-      go true = l 7 (lit< tt)
-      go false = l 6 (lit< tt)
-
-  pub link_as : (rate : Option ℕ) (sum reporting : ℕ) → Limited h → RatedAs rate (rate_of (unless_zero (get_or h 1 0)) (unless_zero (get_or h 2 0)))
-      → sum ≡ get_or h 10 0 → reporting ≡ get_or h (6 + side_no (side_of (not c))) 0
-      → LinkAs (record { delay = record { 0 = get_or h 0 0 }; window = record { 0 = get_or h 3 0 }; rate = rate; sum = record { 0 = sum }; reporting = record { 0 = reporting } }) (state_from h rs) (side_of c)
+  pub link_as : (d w r : Span) (sum : Sum) (rate : Option ℕ) → d.length.0 ≡ (state_from h rs).settings.network_delay → w.length.0 ≡ get_or h 3 0
+      → RatedAs rate (rate_of (unless_zero (get_or h 1 0)) (unless_zero (get_or h 2 0))) → sum.length.0 ≡ (state_from h rs).client.sum → r.length.0 ≡ get_or h (6 + side_no (side_of (not c))) 0
+      → LinkAs (record { delay = d; window = w; rate = rate; sum = sum; reporting = r }) (state_from h rs) (side_of c)
   unfolding state_from
-  link_as rate sum reporting l r es er = record {
-    delay = word_at h 0 (lit< tt);
-    window = word_at h 3 (lit< tt);
-    rate = r.is ∙ ap₂ (λ a b. rate_of (unless_zero a) (unless_zero b)) (word_at h 1 (lit< tt)) (word_at h 2 (lit< tt));
-    sum = es ∙ word_at h 10 (lit< tt);
+  link_as d w r sum rate ed ew q es er = record {
+    delay = ed;
+    window = ew ∙ word_at h 3 (lit< tt);
+    rate = q.is ∙ ap₂ (λ a b. rate_of (unless_zero a) (unless_zero b)) (word_at h 1 (lit< tt)) (word_at h 2 (lit< tt));
+    sum = es;
     reporting = er ∙ reporting_held;
-    above = r.above;
-    delay_small = l 0 (lit< tt);
-    window_small = l 3 (lit< tt);
-    sum_small = rw es (l 10 (lit< tt));
-    reporting_small = rw er (reporting_small l);
+    above = q.above;
   }
 
 -- ---- test
@@ -137,13 +131,13 @@ arrived e now network reporting m em = ap₂ (λ t z. packet TunnelRecv t report
 
 -- ---- plan
 
-module _ (l : Link) (s : State) (e : SimEvent) (now : ℕ) (f : Filled) (k : LinkAs l s (side_of e.client)) (ef : FilledAs f l.window.0 now (limit_of l.rate) (side s (side_of e.client)).stamps) where
+module _ (l : Link) (s : State) (e : SimEvent) (now : ℕ) (f : Filled) (k : LinkAs l s (side_of e.client)) (ef : FilledAs f l.window.length.0 now (limit_of l.rate) (side s (side_of e.client)).stamps) where
   extra_is : f.extra.0 ≡ extra_at s (length (stamps_kept s.settings.window now (side s (side_of e.client)).stamps) + 1)
   extra_is = ef.extra ∙ (λ i. extra_over (k.window i) (length (stamps_kept (k.window i) now (side s (side_of e.client)).stamps) + 1) (k.rate i))
 
-  pub planned : (t : Tested) (v : SimEvent) (n : ℕ) → TestedAs t (tested_by (side s (side_of e.client)) l.sum.0 e.moment.0 f.extra.0) (tested_sums (side s (side_of e.client)) l.sum.0 e.moment.0 f.extra.0)
-      → n ≡ f.extra.0 + l.delay.0
-      → event_value v ≡ packet TunnelRecv (reported (sent_of e) now n l.reporting.0) l.reporting.0 (other (side_of e.client)) e.padding false false
+  pub planned : (t : Tested) (v : SimEvent) (n : ℕ) → TestedAs t (tested_by (side s (side_of e.client)) l.sum.length.0 e.moment.0 f.extra.0) (tested_sums (side s (side_of e.client)) l.sum.length.0 e.moment.0 f.extra.0)
+      → n ≡ f.extra.0 + l.delay.length.0
+      → event_value v ≡ packet TunnelRecv (reported (sent_of e) now n l.reporting.length.0) l.reporting.length.0 (other (side_of e.client)) e.padding false false
       → tunnel_of (record { stale = f.stale; by = t.by; base = t.base; received = v }) ≡ tunnel_plan s now (sent_of e)
   unfolding tunnel_plan
   planned t v n et en ev = λ i. record { stale = stale_is i; by = by_is i; formed = formed_is i; received = received_is i }

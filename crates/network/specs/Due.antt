@@ -3,7 +3,6 @@ use Rattle.std.specs.Prelude.{ℕ, ◌≤◌, ◌≡◌, List, [], ◌∷◌, ma
 use Rattle.std.proofs.Math.Option.{Option}
 use Rattle.rules.specs.Basics.{Side, client, server}
 use Rattle.rules.specs.State.{Aggregate}
-use Rattle.rules.specs.Limits.{moment_limit, duration_limit}
 use Rattle.rules.specs.Aggregates.{aggregates_of}
 use Rattle.rules.specs.AggregateMoments.{InCase, MomentCase, case_moment}
 use Rattle.event.specs.HandedIn.{aggregate_in}
@@ -34,5 +33,3 @@ moments l = map (λ (a : Aggregate). a.moment) l
 pub record MayAggregate (w : List ℕ) (d : ℕ) (z : Side) (at : ℕ) (by : Option ℕ) : Type 0 where
   pub shaped : Shaped w
   pub free : length (aggregates_of d z at by) ≤ count_in w 0
-  pub delay : d ≤ duration_limit
-  pub time : at ≤ moment_limit

@@ -4,7 +4,7 @@ use Rattle.std.specs.Prelude.{ℕ, ◌+◌, ◌≤◌, ◌≡◌, ◌&&◌, fals
 use Rattle.std.proofs.Math.Option.{Option, none, some}
 use Rattle.rules.specs.Basics.{Side, other, client, TunnelSent, PaddingSent, TunnelRecv}
 use Rattle.rules.specs.State.{Event, SideState, State, in_record, side}
-use Rattle.rules.specs.Limits.{moment_limit, duration_limit, delay_limit}
+use Rattle.rules.specs.Limits.{moment_limit, delay_limit}
 use Rattle.rules.specs.Arguments.{event_of as handed_over}
 use Rattle.rules.specs.ChoiceHeads.{Head, waiting_head}
 use Rattle.rules.specs.ChoiceRound.{lift_event}
@@ -41,16 +41,12 @@ pub record Sendable (e : SimEvent) (now : ℕ) : Type 0 where
 
 -- what the header says for a step of side z: "the aggregate test uses the client's sum on both sides", the reporting delay is the recipient's
 pub record LinkAs (l : Link) (s : State) (z : Side) : Type 0 where
-  pub delay : l.delay.0 ≡ s.settings.network_delay
-  pub window : l.window.0 ≡ s.settings.window
+  pub delay : l.delay.length.0 ≡ s.settings.network_delay
+  pub window : l.window.length.0 ≡ s.settings.window
   pub rate : limit_of l.rate ≡ rate_of s.settings.network_rate s.settings.queue_rate
-  pub sum : l.sum.0 ≡ s.client.sum
-  pub reporting : l.reporting.0 ≡ (side s (other z)).fixed.reporting_delay
+  pub sum : l.sum.length.0 ≡ s.client.sum
+  pub reporting : l.reporting.length.0 ≡ (side s (other z)).fixed.reporting_delay
   pub above : Above (limit_of l.rate)
-  pub delay_small : l.delay.0 ≤ duration_limit
-  pub window_small : l.window.0 ≤ duration_limit
-  pub sum_small : l.sum.0 ≤ moment_limit
-  pub reporting_small : l.reporting.0 ≤ duration_limit
 
 -- a packet of moment u that is delayed by extra is tested for an aggregate: the length found, and the sums formed
 unfoldable pub tested_by : SideState → ℕ → ℕ → ℕ → Option ℕ

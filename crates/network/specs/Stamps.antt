@@ -3,7 +3,7 @@ use Rattle.std.specs.Prelude.{ℕ, ◌+◌, ◌-◌, ◌<◌, ◌≤◌, ◌≡�
 use Rattle.std.proofs.Math.Option.{Option as RulesOption, none, some}
 use Rattle.rules.specs.State.{Held}
 use Rattle.rules.specs.NetworkStep.{stamps_kept, extra_over}
-use Rattle.queue_event.specs.Chain.{Chain, nodes}
+use Rattle.queue_event.specs.Chain.{Node}
 use Rattle.layout.specs.Layout.{held_stamp}
 use Rattle.queue.specs.Stamps.{stale_count}
 use Rattle.network.specs.declared.window.Filled.{Filled}
@@ -29,11 +29,10 @@ pub record RatedAs (r : Option ℕ) (o : RulesOption ℕ) : Type 0 where
 abbrev pub evicted_count : ℕ → ℕ → List (Held ℕ) → ℕ
 evicted_count window now l = length l - length (stamps_kept window now l)
 
--- at each turn of the loop that counts the same: what is left is a chain, and its stale stamps with those gone are all
-pub record Ages (rs : List ℕ) (window now goal n h gone : ℕ) : Type 0 where
-  pub mark : ℕ
-  pub chain : Chain rs mark n h
-  pub rest : gone + stale_count window now (map held_stamp (nodes rs n h)) ≡ goal
+-- at each turn of the walk that counts the same: gone are behind it, and l is left
+pub record Ages (window now goal count gone : ℕ) (l : List Node) : Type 0 where
+  pub rest : gone + stale_count window now (map held_stamp l) ≡ goal
+  pub all : gone + length l ≡ count
 
 -- ---- the window after a new stamp
 

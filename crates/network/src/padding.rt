@@ -1,7 +1,6 @@
 // What a step of `PaddingSent` is to do: a packet of its own, or in its place one that waits. specs/Plans has the same of the rules'
 // step_padding, proofs/PaddingLaws that the step is this and no more.
-ghost use Rattle.std.specs.Prelude.{◌≡◌, ◌≤◌};
-ghost use Rattle.rules.specs.Limits.{moment_limit, duration_limit};
+ghost use Rattle.std.specs.Prelude.{◌≡◌};
 ghost use Rattle.rules.specs.ChoiceRound.{fits};
 ghost use Rattle.queue.specs.Views.{state_in, side_in};
 ghost use Rattle.delay.specs.Tests.{Packets};
@@ -9,9 +8,9 @@ ghost use Rattle.network.specs.Plans.{padded_of, padding_of, padding_plan, paddi
 
 use crate::aggregate;
 use event::SimEvent;
-use moment::{Length, Moment};
+use moment::{Length, Moment, Span, Time};
 use queue::peek::Head;
-use queue::{View, header, peek};
+use queue::{View, peek};
 
 // A packet that is taken over, and what the test for an aggregate found.
 #[derive(Clone, Copy)]
@@ -40,7 +39,7 @@ fn replacement(view: &View, h: Head, client: bool, time: Moment) -> Replaced
         client,
         time,
         h.event.moment,
-        Length(view.words.of_side(header::SUM, client)),
+        delay::sum(view, client),
         delay::usual(),
     );
     Replaced {
@@ -82,19 +81,15 @@ pub fn records_for(p: Padding) -> u64
 }
 
 // Whether the sums that a packet taken over forms are within the limit.
-fn replaced_fits(r: Replaced, delay: Length, time: Moment) -> bool
-    requires fact_1 { delay.0 ≤ duration_limit }
-    requires fact_2 { time.0 ≤ moment_limit }
-    ensures { result ≡ fits (padding_sums delay.0 time.0 (padding_of (Padding.Replaces r))) }
+fn replaced_fits(r: Replaced, delay: Span, time: Time) -> bool
+    ensures { result ≡ fits (padding_sums delay.length.0 time.at.0 (padding_of (Padding.Replaces r))) }
 {
     aggregate::base_fits(r.base) && aggregate::fit(delay, r.head.event.client, time, r.by)
 }
 
 // Whether the sums that it forms are within the limit.
-pub fn fit(p: Padding, delay: Length, time: Moment) -> bool
-    requires fact_1 { delay.0 ≤ duration_limit }
-    requires fact_2 { time.0 ≤ moment_limit }
-    ensures { result ≡ fits (padding_sums delay.0 time.0 (padding_of p)) }
+pub fn fit(p: Padding, delay: Span, time: Time) -> bool
+    ensures { result ≡ fits (padding_sums delay.length.0 time.at.0 (padding_of p)) }
 {
     match p {
         Padding::Own | Padding::Dropped => true,

@@ -1,8 +1,7 @@
 // What a step of `TunnelSent` is to do: a stamp, the delay of a full window with its test for an aggregate, and `TunnelRecv` at the
 // other side. specs/Plans has the same of the rules' step_tunnel, proofs/TunnelLaws that the step is this and no more.
-ghost use Rattle.std.specs.Prelude.{◌≡◌, false, ◌≤◌};
+ghost use Rattle.std.specs.Prelude.{◌≡◌, false, ◌≤◌, length};
 ghost use Rattle.rules.specs.Basics.{other, TunnelRecv};
-ghost use Rattle.rules.specs.Limits.{moment_limit, duration_limit};
 ghost use Rattle.rules.specs.NetworkStep.{packet, reported as reported_at};
 ghost use Rattle.rules.specs.ChoiceRound.{fits};
 ghost use Rattle.event.specs.HandedIn.{side_of};
@@ -14,7 +13,7 @@ ghost use Rattle.network.specs.Plans.{sent_of, Sendable, LinkAs, tested_by, test
 use crate::{aggregate, window};
 use delay::Tested;
 use event::{Kind, SimEvent};
-use moment::{Length, Moment};
+use moment::{Length, Moment, Span, Sum, Time};
 use queue::{View, header};
 
 // What the step is to do.
@@ -29,31 +28,34 @@ pub struct Tunnel {
 // What the header says for it. The aggregate test uses the client's sum on both sides; the reporting delay is the recipient's.
 #[derive(Clone, Copy)]
 pub struct Link {
-    pub delay: Length,
-    pub window: Length,
+    pub delay: Span,
+    pub window: Span,
     pub rate: Option<u64>,
-    pub sum: Length,
-    pub reporting: Length,
+    pub sum: Sum,
+    pub reporting: Span,
 }
 
 fn link_of(view: &View, client: bool) -> Link
     ensures { LinkAs result (state_in view.now.words) (side_of client) }
 {
     Link {
-        delay: Length(view.words.header[0]),
-        window: Length(view.words.header[3]),
+        delay: crate::network_delay(view),
+        window: Span {
+            length: Length(view.words.header[3]),
+        },
         rate: window::rate_of(view.words.header[1], view.words.header[2]),
-        sum: Length(view.words.of_side(header::SUM, true)),
-        reporting: Length(view.words.of_side(header::REPORTING_DELAY, !client)),
+        sum: delay::sum(view, true),
+        reporting: Span {
+            length: Length(view.words.of_side(header::REPORTING_DELAY, !client)),
+        },
     }
 }
 
 // A packet of the moment `from` that is delayed is tested for an aggregate.
-fn test(view: &View, client: bool, from: Moment, extra: Length, sum: Length) -> Tested
-    requires { sum.0 ≤ moment_limit }
+fn test(view: &View, client: bool, from: Moment, extra: Length, sum: Sum) -> Tested
     ensures { TestedAs result
-        (tested_by (side_in view.now.words client) sum.0 from.0 extra.0)
-        (tested_sums (side_in view.now.words client) sum.0 from.0 extra.0) }
+        (tested_by (side_in view.now.words client) sum.length.0 from.0 extra.0)
+        (tested_sums (side_in view.now.words client) sum.length.0 from.0 extra.0) }
 {
     if extra.0 == 0 {
         return Tested {
@@ -75,34 +77,32 @@ fn test(view: &View, client: bool, from: Moment, extra: Length, sum: Length) -> 
 }
 
 // When the packet is reported at the recipient.
-fn reported(e: SimEvent, time: Moment, network: Length, reporting: Length) -> Moment
-    requires fact_1 { Sendable e time.0 }
-    requires fact_2 { network.0 ≤ 65_537_000_000_000_000 }
-    requires fact_3 { reporting.0 ≤ duration_limit }
-    ensures { result.0 ≡ reported_at (sent_of e) time.0 network.0 reporting.0 }
+fn reported(e: SimEvent, time: Moment, network: Length, reporting: Span) -> Moment
+    requires sendable { Sendable e time.0 }
+    requires network_small { network.0 ≤ 65_537_000_000_000_000 }
+    ensures { result.0 ≡ reported_at (sent_of e) time.0 network.0 reporting.length.0 }
 {
     if e.padding {
-        return e.moment.plus(e.delay).plus(network).plus(reporting);
+        return e.moment.plus(e.delay).plus(network).plus(reporting.length);
     }
     e.moment
         .less(e.delay)
         .plus(network)
-        .plus(reporting)
+        .plus(reporting.length)
         .max(time)
 }
 
 // The packet at the recipient.
-fn arrival(e: SimEvent, time: Moment, network: Length, reporting: Length) -> SimEvent
-    requires fact_1 { Sendable e time.0 }
-    requires fact_2 { network.0 ≤ 65_537_000_000_000_000 }
-    requires fact_3 { reporting.0 ≤ duration_limit }
-    ensures { event_value result ≡ packet TunnelRecv (reported_at (sent_of e) time.0 network.0 reporting.0) reporting.0 (other (side_of e.client)) e.padding false false }
+fn arrival(e: SimEvent, time: Moment, network: Length, reporting: Span) -> SimEvent
+    requires sendable { Sendable e time.0 }
+    requires network_small { network.0 ≤ 65_537_000_000_000_000 }
+    ensures { event_value result ≡ packet TunnelRecv (reported_at (sent_of e) time.0 network.0 reporting.length.0) reporting.length.0 (other (side_of e.client)) e.padding false false }
 {
     let moment = reported(e, time, network, reporting);
     SimEvent {
         kind: Kind(Kind::TUNNEL_RECV),
         moment,
-        delay: reporting,
+        delay: reporting.length,
         client: !e.client,
         padding: e.padding,
         bypass: false,
@@ -113,13 +113,19 @@ fn arrival(e: SimEvent, time: Moment, network: Length, reporting: Length) -> Sim
 
 // What the step is to do.
 pub fn plan(view: &View, e: SimEvent, time: Moment) -> Tunnel
-    requires { Sendable e time.0 }
+    requires few { length view.now.words.records.now ≤ 262140 }
+    requires sendable { Sendable e time.0 }
     ensures { tunnel_of result ≡ tunnel_plan (state_in view.now.words) time.0 (sent_of e) }
 {
     let link = link_of(view, e.client);
     let filled = window::fill(view, e.client, time, link.window, link.rate);
     let tested = test(view, e.client, e.moment, filled.extra, link.sum);
-    let received = arrival(e, time, filled.extra.plus(link.delay), link.reporting);
+    let received = arrival(
+        e,
+        time,
+        filled.extra.plus(link.delay.length),
+        link.reporting,
+    );
     Tunnel {
         stale: filled.stale,
         by: tested.by,
@@ -129,10 +135,8 @@ pub fn plan(view: &View, e: SimEvent, time: Moment) -> Tunnel
 }
 
 // Whether the sums that it forms are within the limit.
-pub fn fit(t: Tunnel, delay: Length, client: bool, time: Moment) -> bool
-    requires fact_1 { delay.0 ≤ duration_limit }
-    requires fact_2 { time.0 ≤ moment_limit }
-    ensures { result ≡ fits (tunnel_sums delay.0 (side_of client) time.0 (tunnel_of t)) }
+pub fn fit(t: Tunnel, delay: Span, client: bool, time: Time) -> bool
+    ensures { result ≡ fits (tunnel_sums delay.length.0 (side_of client) time.at.0 (tunnel_of t)) }
 {
     aggregate::base_fits(t.base)
         && aggregate::fit(delay, client, time, t.by)

@@ -68,7 +68,7 @@ module _ (w : List ℕ) (p : Plan) (e : SimEvent) (d now : ℕ) (may : MayMake w
     pad_free = ltb-false (count_in w 0 + 0) (reserved (state_of w) + padding_records (padding_of v)) (full_pad w may.accepted now e v (subst (Planned (state_of w) now e) q may.plan) ∙ may.room)
 
     pub pad_may : MayPad w v e d now
-    pad_may = record { accepted = may.accepted; plan = pads.plan; free = omega (arith, pad_free); delay = may.delay; time = may.time }
+    pad_may = record { accepted = may.accepted; plan = pads.plan; free = omega (arith, pad_free); delay = may.delay }
 
     pub make_pad : (left : List ℕ) → Leaves w left (step_padding (state_of w) now (padded_of e)).state → Carried w left (after_of (state_of w) now e) None
     make_pad left l =
@@ -85,7 +85,7 @@ module _ (w : List ℕ) (p : Plan) (e : SimEvent) (d now : ℕ) (may : MayMake w
         (full_send w may.accepted now e t (subst (Planned (state_of w) now e) q may.plan) d ∙ may.room)
 
     pub send_may : MaySend w t e d now
-    send_may = record { accepted = may.accepted; plan = sends.plan; free = omega (arith, send_free); delay = may.delay; time = may.time }
+    send_may = record { accepted = may.accepted; plan = sends.plan; free = omega (arith, send_free); delay = may.delay }
 
     pub make_send : (left : List ℕ) (f : Option Moment) → Carried w left (step_tunnel (state_of w) now (sent_of e)) f → Carried w left (after_of (state_of w) now e) f
     make_send left f c = carried_as w left _ _ f c (sym (after_send (state_of w) now e sends.kind))

@@ -1,5 +1,5 @@
 -- Laws of a plan that is carried out: what is left is the rules' step of `PaddingSent` and of `TunnelSent`. Assumes nothing.
-use Prim.Native.Nat.{ℕ, ◌+◌, ◌-◌, ◌≤◌}
+use Prim.Native.Nat.{ℕ, ◌+◌, ◌-◌}
 use mathlib.Core.Path.{◌≡◌, refl, sym, ap, ap₂, subst, ◌∙◌}
 use mathlib.Core.Bool.{Bool, true, false}
 use mathlib.Core.List.{List}
@@ -9,7 +9,6 @@ use lib.ListN.{length}
 use Rattle.std.specs.Prelude.{if◌then◌else◌}
 use Rattle.rules.specs.Basics.{TunnelSent}
 use Rattle.rules.specs.State.{Event, State, side}
-use Rattle.rules.specs.Limits.{duration_limit}
 use Rattle.rules.specs.Aggregates.{add_aggregates, aggregates_of, some_sum}
 use Rattle.rules.specs.ChoiceHeads.{Head as RulesHead, waiting_head}
 use Rattle.rules.specs.ChoiceRound.{lift_event}
@@ -19,7 +18,6 @@ use Rattle.laws.specs.Heads.{HeadOf, waiting_first_lem}
 use Rattle.event.specs.HandedIn.{side_of}
 use Rattle.event.specs.Answers.{falls_of}
 use Rattle.event.specs.declared.SimEvent.{SimEvent}
-use Rattle.layout.specs.Accepted.{Accepted}
 use Rattle.layout.specs.Layout.{state_of}
 use Rattle.queue.specs.Changes.{Leaves, count_in}
 use Rattle.queue.specs.Heads.{head_from}
@@ -49,9 +47,6 @@ use Rattle.network_stack.proofs.EvictLaws.{stamp_free}
 use Rattle.network_stack.proofs.PacketLaws.{recv_canonical}
 use Rattle.network_stack.proofs.TakeLaws.{passed_free}
 
-network_small : (w : List ℕ) → Accepted w → (state_of w).settings.network_delay ≤ duration_limit
-network_small w a = (holds_accepted w a).settings.network
-
 -- ---- replace
 
 module _ (w : List ℕ) (r : Replaced) (d now : ℕ) (may : MayReplace w r d now) where
@@ -60,7 +55,7 @@ module _ (w : List ℕ) (r : Replaced) (d now : ℕ) (may : MayReplace w r d now
     free_same = sym (free_length v) ∙ ap (λ s. length s.free) l.state ∙ ap length (passed_free (state_of w) (head_from r.head)) ∙ free_length w
 
     pub replace_aggregate : MayAggregate v d (side_of r.head.event.client) now (delayed_of r.by)
-    replace_aggregate = record { shaped = l.shaped; free = omega (arith, may.free, free_same); delay = may.delay; time = may.time }
+    replace_aggregate = record { shaped = l.shaped; free = omega (arith, may.free, free_same) }
 
 -- ---- the packet that waits
 
@@ -130,8 +125,6 @@ module _ (w : List ℕ) (p : Padding) (e : SimEvent) (d now : ℕ) (may : MayPad
                 first = subst (HeadOf (state_of w)) waits_is (waiting_first_lem (state_of w) (side_of e.client) (side (state_of w) (side_of e.client)).block_bypassable (holds_accepted w may.accepted).sound);
               };
           free = omega (arith, rw q at may.free, aggregates_long d (side_of r.head.event.client) now (delayed_of r.by));
-          delay = omega (arith, may.delay, network_small w may.accepted);
-          time = may.time;
         }
 
     pub pad_replaced : (left : List ℕ) → Leaves w left (add_aggregates (passed_on (state_of w) (head_from r.head)) (aggregates_of d (side_of r.head.event.client) now (delayed_of r.by)))
@@ -160,7 +153,6 @@ module _ (w : List ℕ) (t : Tunnel) (e : SimEvent) (d now : ℕ) (may : MaySend
       record {
         may = record { shaped = accepted_shaped w may.accepted; stale = stale_is; free = omega (arith, may.free) };
         accepted = may.accepted;
-        time = may.time;
       }
 
   module _ (v : List ℕ) (told : Window) (st : Stamped w v (side_of e.client) now told) where
@@ -173,8 +165,7 @@ module _ (w : List ℕ) (t : Tunnel) (e : SimEvent) (d now : ℕ) (may : MaySend
         (arith, free_length v, ap (λ s. length s.free) l.state, stamp_free (state_of w) (side_of e.client) now, free_length w, stale_is)
 
     pub send_aggregate : MayAggregate v d (side_of e.client) now (delayed_of t.by)
-    send_aggregate =
-        record { shaped = l.shaped; free = omega (arith, may.free, free_left); delay = omega (arith, may.delay, network_small w may.accepted); time = may.time }
+    send_aggregate = record { shaped = l.shaped; free = omega (arith, may.free, free_left) }
 
     module _ (u : List ℕ) (m : Leaves v u (add_aggregates (state_of v) (aggregates_of d (side_of e.client) now (delayed_of t.by)))) where
       received_canonical : Canonical t.received

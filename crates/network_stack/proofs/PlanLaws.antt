@@ -2,10 +2,8 @@
 use Prim.Native.Nat.{ℕ, zero, suc}
 use mathlib.Core.Path.{◌≡◌, refl, sym, ap, ◌∙◌, ap₂}
 use mathlib.Core.Bool.{Bool, true, false}
-use mathlib.Core.List.{List}
 use mathlib.Core.Logic.{◌⊎◌, inl, inr}
 use native.Mathlib.Decide.{ℕ_discrete}
-use lib.ListN.{length, take}
 use Rattle.rules.specs.Basics.{Side, TunnelSent, kind_of}
 use Rattle.rules.specs.State.{State}
 use Rattle.rules.specs.Effects.{after_step}
@@ -16,10 +14,8 @@ use Rattle.event.specs.declared.SimEvent.{SimEvent}
 use Rattle.network.specs.declared.padding.Padding.{Padding}
 use Rattle.network.specs.declared.tunnel.Tunnel.{Tunnel}
 use Rattle.network.specs.Plans.{PaddingPlan, dropped, own, padded_of, padding_of, padding_plan, padding_step, padding_sums, sent_of, takes, tunnel_of, tunnel_plan, tunnel_sums, PaddingAs}
-use Rattle.layout.specs.Accepted.{Accepted}
 use Rattle.network.proofs.PaddingLaws.{padding_step_lem, padding_sums_lem}
 use Rattle.network.proofs.TunnelLaws.{tunnel_sums_lem}
-use Rattle.layout.proofs.Parts.{head_length}
 use Rattle.network_stack.specs.declared.plan.Plan.{Plan}
 use Rattle.network_stack.specs.declared.plan.Plan.TheVariants.{Nothing, Pad, Queue, Send}
 use Rattle.network_stack.specs.Packets.{Packet, receipt_kind}
@@ -135,8 +131,3 @@ planned_fits s now e (Pad v) d pl ed =
     ap₂ (λ x y. fits (padding_sums x now y)) ed pl.plan ∙ padding_sums_lem s now (padded_of e) ∙ ap (λ r. fits r.sums) (sym (after_pad s now e pl.kind))
 planned_fits s now e (Send v) d pl ed =
     ap₂ (λ x y. fits (tunnel_sums x (side_of e.client) now y)) ed pl.plan ∙ tunnel_sums_lem s now (sent_of e) ∙ ap (λ r. fits r.sums) (sym (after_send s now e pl.kind))
-
--- ---- the front of the block
-
-pub front_long : (w : List ℕ) → Accepted w → length (take 256 w) ≡ 256
-front_long w a = head_length w a.size.least

@@ -6,12 +6,11 @@ use mathlib.Core.List.{List}
 use mathlib.Core.Logic.{◌⊎◌}
 use mathlib.Core.Option.{Option as MathOption}
 use native.Mathlib.Omega.{arith}
-use lib.ListN.{get_or, set, take, length-set}
-use lib.Seq.{get_or-set_other, get_or-take}
+use lib.ListN.{set, take, drop, length-set}
+use lib.Seq.{get_or-set_other}
 use Rattle.std.specs.Prelude.{if◌then◌else◌}
 use Rattle.rules.specs.Basics.{kind_of}
 use Rattle.rules.specs.State.{State, with_ended}
-use Rattle.rules.specs.Limits.{duration_limit}
 use Rattle.rules.specs.Choice.{Answer as RulesAnswer, refused, step_made}
 use Rattle.rules.specs.Calls.{leaves}
 use Rattle.rules.specs.Effects.{after_step}
@@ -32,10 +31,8 @@ use Rattle.layout.specs.Spare.{Spare}
 use Rattle.layout.specs.Changes.{side_no}
 use Rattle.queue.specs.Changes.{Leaves}
 use Rattle.network.specs.Plans.{tunnel_plan}
-use Rattle.layout.proofs.Banks.{bank_at}
 use Rattle.layout.proofs.Shapes.{accepted_shaped}
 use Rattle.layout.proofs.Stores.{ended_shaped, ended_stored}
-use Rattle.layout.proofs.Theorems.{holds_accepted}
 use Rattle.queue.proofs.Changing.{shaped_count}
 use Rattle.queue.proofs.Sizes.{stamps_length}
 use Rattle.layout.proofs.Spares.{spare_chains, spare_head}
@@ -52,24 +49,14 @@ side_small : (b : Bool) → 5 + 5 * side_no (side_of b) < 12
 side_small true = omega arith
 side_small false = omega arith
 
-pub plan_small : (w : List ℕ) (p : Plan) (now : ℕ) (e : SimEvent) → Accepted w → Planned (state_of w) now e p → plan_gives_back p ≤ 65535
+few_stamps : (w : List ℕ) (p : Plan) (now : ℕ) (e : SimEvent) → Accepted w → Planned (state_of w) now e p → plan_gives_back p ≤ 65535
 unfolding Planned plan_gives_back tunnel_plan
-plan_small w Nothing now e a pl = omega arith
-plan_small w (Queue q) now e a pl = omega arith
-plan_small w (Pad q) now e a pl = omega arith
-plan_small w (Send t) now e a pl =
+few_stamps w Nothing now e a pl = omega arith
+few_stamps w (Queue q) now e a pl = omega arith
+few_stamps w (Pad q) now e a pl = omega arith
+few_stamps w (Send t) now e a pl =
     omega
     (arith, ap (λ x. x.stale) pl.plan, stamps_length w (side_of e.client), shaped_count w (accepted_shaped w a) (5 + 5 * side_no (side_of e.client)) (side_small e.client))
-
--- ---- the network delay, in word 0
-
-module _ (w : List ℕ) (a : Accepted w) where
-  pub delay_is : get_or w 0 0 ≡ (state_of w).settings.network_delay
-  unfolding state_from
-  delay_is = sym (bank_at 0 24 (take 256 w) 0 (omega arith) ∙ get_or-take 256 w 0 0 (omega arith))
-
-  pub delay_small : get_or w 0 0 ≤ duration_limit
-  delay_small = omega (arith, delay_is, (holds_accepted w a).settings.network)
 
 -- ---- the answers are told apart
 
@@ -91,13 +78,22 @@ clash b p q = absurd (false≢true (sym q ∙ p))
 
 -- ---- the call
 
-pub make_may : (w : List ℕ) (e : SimEvent) (now : ℕ) (p : Plan) (x : Bool) → x ≡ false → x ≡ no_room w p → MayStep w e now → Planned (state_of w) now e p → MayMake w p e (get_or w 0 0) now
-make_may w e now p x f ex may pl =
-    record { accepted = may.accepted; plan = pl; room = sym (planned_full w may.accepted now e p pl) ∙ sym ex ∙ f; delay = delay_is w may.accepted; time = may.handed.time }
+-- h and rs are the words in view, of which the plan p was made
+module _ (w : List ℕ) (e : SimEvent) (now : ℕ) (p : Plan) (may : MayStep w e now) (h rs : List ℕ) (eh : h ≡ take 256 w) (er : rs ≡ drop 256 w) (seen : Planned (state_from h rs) now e p) where
+  pl : Planned (state_of w) now e p
+  pl = rw (eh, er) at seen
 
-module _ (w : List ℕ) (e : SimEvent) (now : ℕ) (p : Plan) (may : MayStep w e now) (pl : Planned (state_of w) now e p) (x : Bool) (ex : x ≡ no_room w p) where
+  pub plan_small : plan_gives_back p ≤ 65535
+  plan_small = few_stamps w p now e may.accepted pl
+
+module _
+    (w : List ℕ) (e : SimEvent) (now : ℕ) (p : Plan) (may : MayStep w e now) (h rs : List ℕ) (eh : h ≡ take 256 w) (er : rs ≡ drop 256 w) (seen : Planned (state_from h rs) now e p)
+    (x : Bool) (ex : x ≡ no_room w p) where
+  planned : Planned (state_of w) now e p
+  planned = pl w e now p may h rs eh er seen
+
   full_is : x ≡ full (after_of (state_of w) now e).state
-  full_is = ex ∙ planned_full w may.accepted now e p pl
+  full_is = ex ∙ planned_full w may.accepted now e p planned
 
   pub step_nine : x ≡ true → (r : Refusal) → r ≡ refusal_for NoRoom → StepDone w now e (Err r) w
   unfolding after_of
@@ -112,9 +108,15 @@ module _ (w : List ℕ) (e : SimEvent) (now : ℕ) (p : Plan) (may : MayStep w e
         ten = λ q. absurd (nine_ten (ap refused_by (sym er) ∙ q));
       }
 
-  module _ (no : x ≡ false) (y : Bool) (ey : y ≡ fits (plan_sums (get_or w 0 0) (side_of e.client) now p)) where
+  module _ (no : x ≡ false) (y : Bool) (d : ℕ) (ed : d ≡ (state_from h rs).settings.network_delay) (ey : y ≡ fits (plan_sums d (side_of e.client) now p)) where
+    delay_is : d ≡ (state_of w).settings.network_delay
+    delay_is = rw (eh, er) at ed
+
     fits_is : y ≡ fits (after_of (state_of w) now e).sums
-    fits_is = ey ∙ planned_fits (state_of w) now e p (get_or w 0 0) pl (delay_is w may.accepted)
+    fits_is = ey ∙ planned_fits (state_of w) now e p d planned delay_is
+
+    pub make_may : MayMake w p e d now
+    make_may = record { accepted = may.accepted; plan = planned; room = sym full_is ∙ no; delay = delay_is }
 
     pub step_ten : y ≡ false → (r : Refusal) → r ≡ refusal_for PastLimit → StepDone w now e (Err r) (set w 16 1)
     unfolding after_of

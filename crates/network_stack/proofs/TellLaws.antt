@@ -61,28 +61,30 @@ module _ (v : List ℕ) (z : Side) (k : ℕ) (may : MayTell v z) (ek : (k ≡ 5 
   many : 0 < count_in v (5 + 5 * side_no z)
   many = omega (arith, stamps_length v z, may.some)
 
-  first_is : get_or v (24 + 2 * k) 0 ≡ head_in v (5 + 5 * side_no z)
-  first_is = head_word_lem v k (omega (arith, ek.1)) ∙ ap (head_in v) ek.0
+  -- f is the chain's first record, and n how many it has
+  module _ (f n : ℕ) (ef : f ≡ get_or v (24 + 2 * k) 0) (en : n ≡ get_or v (25 + 2 * k) 0) where
+    first_is : f ≡ head_in v (5 + 5 * side_no z)
+    first_is = ef ∙ head_word_lem v k (omega (arith, ek.1)) ∙ ap (head_in v) ek.0
 
-  pub oldest_in : In (drop 256 v) (get_or v (24 + 2 * k) 0)
-  oldest_in = rw first_is (first_in v may.shaped (5 + 5 * side_no z) (no_small z) many)
+    pub oldest_in : In (drop 256 v) f
+    oldest_in = rw first_is (first_in v may.shaped (5 + 5 * side_no z) (no_small z) many)
 
-  module _ (m : ℕ) (em : m ≡ moment_of (drop 256 v) (get_or v (24 + 2 * k) 0)) where
-    stamps_are : (side (state_of v) z).stamps ≡ in_record (head_in v (5 + 5 * side_no z)) m ∷ others v z may.shaped many
-    stamps_are =
-        stamps_begin v z may.shaped many
-        ∙ ap (λ n. in_record (head_in v (5 + 5 * side_no z)) n ∷ others v z may.shaped many) (sym (em ∙ ap (moment_of (drop 256 v)) first_is))
+    module _ (rs : List ℕ) (r m : ℕ) (er : rs ≡ drop 256 v) (e : r ≡ f) (em : m ≡ moment_of rs r) where
+      stamps_are : (side (state_of v) z).stamps ≡ in_record (head_in v (5 + 5 * side_no z)) m ∷ others v z may.shaped many
+      stamps_are =
+          stamps_begin v z may.shaped many
+          ∙ ap (λ i. in_record (head_in v (5 + 5 * side_no z)) i ∷ others v z may.shaped many) (sym (em ∙ (λ d. moment_of (er d) ((e ∙ first_is) d))))
 
-    pub oldest_small : m ≤ moment_limit
-    oldest_small = (subst (All (λ (t : Held ℕ). t.value ≤ moment_limit)) stamps_are may.stamps).0
+      pub oldest_small : m ≤ moment_limit
+      oldest_small = (subst (All (λ (t : Held ℕ). t.value ≤ moment_limit)) stamps_are may.stamps).0
 
-    pub tells : (f : Option Moment) → falls_of f ≡ too_old_from (get_or v 3 0) m
-        → window_told (record { count = get_or v (25 + 2 * k) 0; falls = f }) ≡ stamp_tells (state_of v).settings.window (side (state_of v) z).stamps
-    tells f e =
-        λ d. record {
-          count = (count_word v k (omega (arith, ek.1)) ∙ ap (count_in v) ek.0 ∙ sym (stamps_length v z)) d;
-          falls = (e ∙ ap (λ n. too_old_from n m) (window_is v) ∙ ap (count_falls (state_of v).settings.window) (sym stamps_are)) d;
-        }
+      pub tells : (t : Option Moment) → falls_of t ≡ too_old_from (get_or v 3 0) m
+          → window_told (record { count = n; falls = t }) ≡ stamp_tells (state_of v).settings.window (side (state_of v) z).stamps
+      tells t et =
+          λ d. record {
+            count = (en ∙ count_word v k (omega (arith, ek.1)) ∙ ap (count_in v) ek.0 ∙ sym (stamps_length v z)) d;
+            falls = (et ∙ ap (λ i. too_old_from i m) (window_is v) ∙ ap (count_falls (state_of v).settings.window) (sym stamps_are)) d;
+          }
 
 -- ---- `stamp`: v is what it leaves
 
@@ -103,12 +105,12 @@ module _
   left : Leaves w v (stamp (state_of w) z now)
   left = stamp_stored w z now gone k s.may ek x r c v ev
 
-  pub tell_may : MayTell v z
-  tell_may =
+  pub tell_may : now ≤ moment_limit → MayTell v z
+  tell_may n =
       record {
         shaped = left.shaped;
         some = rw left.state (stamp_some (state_of w) z now);
-        stamps = rw left.state (sound_side (stamp_sound (state_of w) z now (holds_accepted w s.accepted).sound s.time) z).stamps;
+        stamps = rw left.state (sound_side (stamp_sound (state_of w) z now (holds_accepted w s.accepted).sound n) z).stamps;
         window = rw left.state (rw (stamp_settings (state_of w) z now) (holds_accepted w s.accepted).settings.window);
       }
 

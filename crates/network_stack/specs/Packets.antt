@@ -3,7 +3,6 @@ use Rattle.std.specs.Prelude.{ℕ, ◌+◌, ◌≤◌, ◌≡◌, Bool, false, L
 use Rattle.std.proofs.Math.Option.{some}
 use Rattle.rules.specs.Basics.{NormalRecv, PaddingRecv}
 use Rattle.rules.specs.State.{Event, State, in_record}
-use Rattle.rules.specs.Limits.{duration_limit, moment_limit}
 use Rattle.rules.specs.ChoiceHeads.{Head as RulesHead}
 use Rattle.rules.specs.ChoiceRound.{lift_event}
 use Rattle.rules.specs.Queueing.{put_event}
@@ -56,8 +55,6 @@ pub record MayTakeOver (w : List ℕ) (h : Head) : Type 0 where
 pub record MayReplace (w : List ℕ) (r : Replaced) (d now : ℕ) : Type 0 where
   pub head : MayTakeOver w r.head
   pub free : length (aggregates_of d (side_of r.head.event.client) now (delayed_of r.by)) ≤ count_in w 0
-  pub delay : d ≤ duration_limit
-  pub time : now ≤ moment_limit
 
 -- p is the plan for the state held, and there are free records for it
 pub record MayPad (w : List ℕ) (p : Padding) (e : SimEvent) (d now : ℕ) : Type 0 where
@@ -65,7 +62,6 @@ pub record MayPad (w : List ℕ) (p : Padding) (e : SimEvent) (d now : ℕ) : Ty
   pub plan : padding_of p ≡ padding_plan (state_of w) now (padded_of e)
   pub free : padding_records (padding_of p) ≤ count_in w 0
   pub delay : d ≡ (state_of w).settings.network_delay
-  pub time : now ≤ moment_limit
 
 -- ---- `TunnelSent`
 
@@ -75,7 +71,6 @@ pub record MaySend (w : List ℕ) (t : Tunnel) (e : SimEvent) (d now : ℕ) : Ty
   pub plan : tunnel_of t ≡ tunnel_plan (state_of w) now (sent_of e)
   pub free : 2 + length (aggregates_of d (side_of e.client) now (delayed_of t.by)) ≤ count_in w 0 + t.stale
   pub delay : d ≡ (state_of w).settings.network_delay
-  pub time : now ≤ moment_limit
 
 -- ---- a step that is carried out
 

@@ -102,7 +102,6 @@ pub record MayMake (w : List ℕ) (p : Plan) (e : SimEvent) (d now : ℕ) : Type
   pub plan : Planned (state_of w) now e p
   pub room : full (after_of (state_of w) now e).state ≡ false
   pub delay : d ≡ (state_of w).settings.network_delay
-  pub time : now ≤ moment_limit
 
 -- ---- the call
 

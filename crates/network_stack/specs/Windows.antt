@@ -82,11 +82,10 @@ pub record MayTell (v : List ℕ) (z : Side) : Type 0 where
 abbrev pub window_told : Window → RulesWindow
 window_told r = record { count = r.count; falls = falls_of r.falls }
 
--- a stamp may be added, to accepted words and at a moment
+-- a stamp may be added, to accepted words
 pub record Stampable (w : List ℕ) (z : Side) (now gone : ℕ) : Type 0 where
   pub may : MayStamp w z now gone
   pub accepted : Accepted w
-  pub time : now ≤ moment_limit
 
 -- the stamp is added, and r is what the rules tell of the side's stamps, the new one with them
 pub record Stamped (w left : List ℕ) (z : Side) (now : ℕ) (r : Window) : Type 0 where

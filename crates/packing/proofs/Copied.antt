@@ -1,16 +1,18 @@
 -- A chain written as records in a row: each record is four words more, and the rest of the chain is left. Assumes nothing.
-use Prim.Native.Nat.{ℕ, zero, suc, ◌+◌, ◌-◌, ◌*◌, ◌≤◌, ◌<◌}
+use Prim.Native.Nat.{ℕ, suc, ◌+◌, ◌-◌, ◌*◌, ◌≤◌}
 use mathlib.Core.Path.{◌≡◌, refl, sym, ap, ◌∙◌}
 use mathlib.Core.List.{List, [], ◌∷◌, ◌++◌, append_assoc, append-nil}
-use native.Mathlib.Nat.{not-suc-le-zero}
+use mathlib.Core.Logic.{◌⊎◌, inl, inr}
 use native.Mathlib.Omega.{arith}
 use lib.ListN.{length, set, take, length-set}
 use lib.Seq.{take-suc-set}
 use borrow.Author.Tests.{eq-eqb, ne_eqb}
-use Rattle.queue_event.specs.Words.{put, filled, next_of, moment_of, length_of, tag_of, In}
-use Rattle.queue_event.specs.Chain.{Chain, rec_at, nodes, contents}
+use Rattle.queue_event.specs.Words.{put, filled, moment_of, length_of, tag_of, In}
+use Rattle.queue_event.specs.Chain.{Node, rec_at, recs, nodes, contents}
+use Rattle.queue_event.specs.Frame.{node}
 use Rattle.layout.specs.Packed.{first_of, chain_words}
-use Rattle.packing.specs.Copying.{Row, link_of, copied, Copies}
+use Rattle.layout.proofs.PackedChains.{length_contents}
+use Rattle.packing.specs.Copying.{link_of, copied, Copies}
 
 -- ---- a record written whole is four words more
 
@@ -67,18 +69,6 @@ take_filled out p a m l t i =
     fit : 1 ≤ p → 4 * p ≤ length out → 4 * p - 4 + 4 ≤ length out
     fit o f = omega arith
 
--- ---- a row of records
-
-pub chain_row : (rs : List ℕ) (k n h : ℕ) → Chain rs k n h → Row rs n h
-unfolding Chain Row
-chain_row rs k zero h c = tt
-chain_row rs k (suc n) h c = (c.0, chain_row rs k n (next_of rs h) c.2)
-
-row_in : (rs : List ℕ) (n h : ℕ) → 0 < n → Row rs n h → In rs h
-unfolding Row
-row_in rs zero h l r = absurd (not-suc-le-zero l)
-row_in rs (suc n) h l r = r.0
-
 -- ---- the link
 
 pub link_last : (n p : ℕ) → n ≡ 1 → 0 ≡ link_of n p
@@ -90,10 +80,10 @@ unfolding link_of
 link_next n p d = rw (ne_eqb n 1 d) (omega arith)
 
 -- it is what the chain's words have
-link_is : (rs : List ℕ) (n h p : ℕ) → link_of (suc n) p ≡ first_of (suc p) (contents rs n h)
-unfolding link_of nodes
-link_is rs zero h p = refl
-link_is rs (suc n) h p = rw (ne_eqb (suc (suc n)) 1 (λ e. omega arith))
+link_is : (l : List Node) (p : ℕ) → link_of (suc (length (recs l))) p ≡ first_of (suc p) (recs l)
+unfolding link_of
+link_is [] p = refl
+link_is (x ∷ l) p = rw (ne_eqb (suc (suc (length (recs l)))) 1 (λ e. omega arith))
 
 -- ---- the turn
 
@@ -101,67 +91,65 @@ pub length_filled : (out : List ℕ) (p a m l t : ℕ) → length (filled out p 
 unfolding filled put
 length_filled out p a m l t = rw (length-set, length-set, length-set, length-set)
 
-no_more : (rs : List ℕ) (h p : ℕ) (xs : List ℕ) → xs ++ chain_words p (contents rs 0 h) ≡ xs
-unfolding nodes chain_words
-no_more rs h p xs = append-nil xs
-
 one_more :
-    (rs : List ℕ) (n h p : ℕ)
-    → chain_words p (contents rs (suc n) h)
-    ≡ link_of (suc n) p ∷ moment_of rs h ∷ length_of rs h ∷ tag_of rs h ∷ chain_words (suc p) (contents rs n (next_of rs h))
-unfolding chain_words nodes rec_at
-one_more rs n h p =
-    ap (λ a. a ∷ moment_of rs h ∷ length_of rs h ∷ tag_of rs h ∷ chain_words (suc p) (contents rs n (next_of rs h)))
-    (sym (link_is rs n (next_of rs h) p))
+    (x : Node) (l : List Node) (p : ℕ)
+    → chain_words p (recs (x ∷ l)) ≡ link_of (suc (length (recs l))) p ∷ x.rec.moment ∷ x.rec.size ∷ x.rec.tag ∷ chain_words (suc p) (recs l)
+unfolding chain_words
+one_more x l p = ap (λ a. a ∷ x.rec.moment ∷ x.rec.size ∷ x.rec.tag ∷ chain_words (suc p) (recs l)) (sym (link_is l p))
 
-module _ (rest goal out₀ : List ℕ) (end : ℕ) (out : List ℕ) (n h p : ℕ) where
-  pub copy_in : 0 < n → Copies rest goal out₀ end out n h p → In out p
-  copy_in l c = record { one = c.one; fits = omega (arith, c.ends, c.fits) }
+pub copy_start :
+    (rest out : List ℕ) (n h p : ℕ) → 1 ≤ p → 4 * (p + n) ≤ length out + 4
+    → Copies (take (4 * p - 4) out ++ chain_words p (contents rest n h)) out (p + n) out (nodes rest n h) p
+copy_start rest out n h p one room = record { one = one; ends = omega (arith, length_contents rest n h); fits = room; len = refl; whole = refl }
 
-  pub copy_from : Copies rest goal out₀ end out n h p → 0 < n → In rest h
-  copy_from c l = row_in rest n h l c.row
+-- p is q, where the code has it
+module _ (goal out₀ : List ℕ) (end : ℕ) (out : List ℕ) (l x : List Node) (p q : ℕ) (c : Copies goal out₀ end out l p) where
+  none_left : p ≡ end → l ≡ [] → take (4 * end - 4) out ≡ goal
+  unfolding chain_words
+  none_left ep e = ap (λ j. take (4 * j - 4) out) (sym ep) ∙ sym (append-nil (take (4 * p - 4) out)) ∙ (rw e at c.whole)
 
-  pub copy_end : (place count : ℕ) → Copies rest goal out₀ end out n h p → end ≡ place + count → n ≤ 0 → take (4 * (place + count) - 4) out ≡ goal
-  copy_end place count c e l = ap (λ k. take (4 * k - 4) out) (sym e ∙ sym c.ends ∙ all) ∙ done c.whole
+  -- one of the two that are walked together, the numbers and the chain, has ended
+  pub copy_end :
+      {A B : Type 0} {P : A → Type 0} {Q : B → Type 0} → (e : ℕ) → e ≡ end → ((u : A) × P u) ⊎ ((v : B) × Q v) → ((u : A) → P u → e - p ≡ 0) → ((v : B) → Q v → l ≡ [])
+      → take (4 * end - 4) out ≡ goal
+  copy_end e ee (inl s) f g = none_left (omega (arith, f s.0 s.1, c.ends)) (go l (omega (arith, f s.0 s.1, c.ends)))
     where
-      all : p + n ≡ p
-      all = omega arith
+      go : (k : List Node) → length (recs k) ≡ 0 → k ≡ []
+      go [] e = refl
+      go (y ∷ k) e = absurd (omega arith)
+  copy_end e ee (inr s) f g = none_left (omega (arith, c.ends, ap (λ k. length (recs k)) (g s.0 s.1))) (g s.0 s.1)
 
-      none : n ≡ 0
-      none = omega arith
+  -- the first record of what is left is record r of rest
+  module _ (rest rest' : List ℕ) (r : ℕ) (e : l ≡ node rest r ∷ x) (er : rest' ≡ rest) (eq : q ≡ p) where
+    some : length (recs l) ≡ suc (length (recs x))
+    some = ap (λ k. length (recs k)) e
 
-      done : take (4 * p - 4) out ++ chain_words p (contents rest n h) ≡ goal → take (4 * p - 4) out ≡ goal
-      done w = sym (ap (λ k. take (4 * p - 4) out ++ chain_words p (contents rest k h)) none ∙ no_more rest h p (take (4 * p - 4) out)) ∙ w
+    pub copy_in : In out q
+    copy_in = record { one = omega (arith, c.one); fits = omega (arith, c.ends, c.fits, some) }
 
-step : (rest goal out₀ : List ℕ) (end : ℕ) (out : List ℕ) (n h p : ℕ) → Copies rest goal out₀ end out (suc n) h p
-    → Copies rest goal out₀ end (copied rest h out p (link_of (suc n) p)) n (next_of rest h) (suc p)
-unfolding copied Row
-step rest goal out₀ end out n h p c = record {
-  row = c.row.1;
-  one = omega arith;
-  ends = omega (arith, c.ends);
-  fits = omega (arith, c.fits, long);
-  len = long ∙ c.len;
-  whole =
-      ap (λ x. x ++ chain_words (suc p) (contents rest n (next_of rest h)))
-      (take_filled out p (link_of (suc n) p) (moment_of rest h) (length_of rest h) (tag_of rest h) i)
-      ∙ append_assoc (take (4 * p - 4) out) (link_of (suc n) p ∷ moment_of rest h ∷ length_of rest h ∷ tag_of rest h ∷ [])
-      (chain_words (suc p) (contents rest n (next_of rest h)))
-      ∙ ap (λ x. take (4 * p - 4) out ++ x) (sym (one_more rest n h p))
-      ∙ c.whole;
-}
-  where
-    i : In out p
-    i = copy_in rest goal out₀ end out (suc n) h p (omega arith) c
+    pub copy_turn : (out' : List ℕ) (next p' : ℕ) → next ≡ link_of (end - q) q → out' ≡ copied rest' r out q next → p' ≡ p + 1 → Copies goal out₀ end out' x p'
+    unfolding copied rec_at
+    copy_turn out' next p' en eo ep = rw (eo, ep₁, en₁, er, eq) (record {
+      one = omega arith;
+      ends = omega (arith, c.ends, some);
+      fits = omega (arith, c.fits, long);
+      len = long ∙ c.len;
+      whole =
+          ap (λ y. y ++ chain_words (suc p) (recs x)) (take_filled out p (link_of (suc (length (recs x))) p) (moment_of rest r) (length_of rest r) (tag_of rest r) (rw eq at copy_in))
+          ∙ append_assoc (take (4 * p - 4) out) (link_of (suc (length (recs x))) p ∷ moment_of rest r ∷ length_of rest r ∷ tag_of rest r ∷ []) (chain_words (suc p) (recs x))
+          ∙ ap (λ y. take (4 * p - 4) out ++ y) (sym (one_more (node rest r) x p))
+          ∙ ap (λ y. take (4 * p - 4) out ++ chain_words p (recs y)) (sym e)
+          ∙ c.whole;
+    })
+      where
+        ep₁ : p' ≡ suc p
+        ep₁ = omega arith
 
-    long : length (filled out p (link_of (suc n) p) (moment_of rest h) (length_of rest h) (tag_of rest h)) ≡ length out
-    long = length_filled out p (link_of (suc n) p) (moment_of rest h) (length_of rest h) (tag_of rest h)
+        en₁ : next ≡ link_of (suc (length (recs x))) p
+        en₁ = en ∙ (λ d. link_of (left d) (eq d))
+          where
+            left : end - q ≡ suc (length (recs x))
+            left = omega (arith, c.ends, some)
 
-pub copy_turn :
-    (rest goal out₀ : List ℕ) (end : ℕ) (out out' : List ℕ) (count i h p next h' : ℕ) → i < count → next ≡ link_of (count - i) (p + i)
-    → out' ≡ copied rest h out (p + i) next → h' ≡ next_of rest h
-    → Copies rest goal out₀ end out (count - i) h (p + i) → Copies rest goal out₀ end out' (count - (i + 1)) h' (p + (i + 1))
-copy_turn rest goal out₀ end out out' count i h p next h' l en eo eh c =
-    let some : count - i ≡ suc (count - (i + 1)) = omega arith in
-    let after : p + (i + 1) ≡ suc (p + i) = omega arith in
-    rw (eo, en, eh, some, after) (step rest goal out₀ end out (count - (i + 1)) h (p + i) (rw some at c))
+        long : length (filled out p (link_of (suc (length (recs x))) p) (moment_of rest r) (length_of rest r) (tag_of rest r)) ≡ length out
+        long = length_filled out p (link_of (suc (length (recs x))) p) (moment_of rest r) (length_of rest r) (tag_of rest r)

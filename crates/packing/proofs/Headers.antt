@@ -15,7 +15,7 @@ use Rattle.layout.specs.Packed.{header_word}
 use Rattle.layout.proofs.Tables.{length_table, table_at}
 use Rattle.std.proofs.Math.ListN.{get_or-map}
 use Rattle.std.proofs.Math.Seq.{map-set, map-set_same}
-use Rattle.packing.specs.declared.header.Chain.{Chain}
+use Rattle.queue_event.specs.declared.chain.Entry.{Entry}
 use Rattle.packing.specs.Heads.{heads_of, counts_of, sum_to, first_for, start_of, header_from, Reads, Starts, HeaderTo}
 
 -- ---- a word of the header
@@ -160,34 +160,32 @@ starts_all counts starts n place v l e c (suc k) q = get_or-set_other starts 0 (
 
 -- ---- chains, each a head and a count
 
-abbrev pub none : Chain
+abbrev pub none : Entry
 none = record { head = 0; count = 0 }
 
-module _ (l : List Chain) (k : ℕ) where
+module _ (l : List Entry) (k : ℕ) where
   pub head_at : (get_or l k none).head ≡ get_or (heads_of l) k 0
-  head_at = sym (get_or-map (λ (c : Chain). c.head) l k none)
+  head_at = sym (get_or-map (λ (c : Entry). c.head) l k none)
 
   pub count_at : (get_or l k none).count ≡ get_or (counts_of l) k 0
-  count_at = sym (get_or-map (λ (c : Chain). c.count) l k none)
+  count_at = sym (get_or-map (λ (c : Entry). c.count) l k none)
 
-  heads_set : (x : Chain) → heads_of (set l k x) ≡ set (heads_of l) k x.head
-  heads_set x = map-set (λ (c : Chain). c.head) l k x
+  heads_set : (x : Entry) → heads_of (set l k x) ≡ set (heads_of l) k x.head
+  heads_set x = map-set (λ (c : Entry). c.head) l k x
 
-  counts_set : (x : Chain) → counts_of (set l k x) ≡ set (counts_of l) k x.count
-  counts_set x = map-set (λ (c : Chain). c.count) l k x
+  counts_set : (x : Entry) → counts_of (set l k x) ≡ set (counts_of l) k x.count
+  counts_set x = map-set (λ (c : Entry). c.count) l k x
 
   -- a chain whose head alone is new
   counts_kept : (a : ℕ) → counts_of (set l k (record { head = a; count = (get_or l k none).count })) ≡ counts_of l
-  counts_kept a = map-set_same (λ (c : Chain). c.count) l k (record { head = a; count = (get_or l k none).count }) none refl
+  counts_kept a = map-set_same (λ (c : Entry). c.count) l k (record { head = a; count = (get_or l k none).count }) none refl
 
 pub read_turn :
-    (h : List ℕ) (l : List Chain) (k a n : ℕ) → k < 12 → a ≡ get_or h (24 + 2 * k) 0 → n ≡ get_or h (25 + 2 * k) 0 → Reads h (heads_of l) (counts_of l) k
-    → Reads h (heads_of (set l k (record { head = a; count = n }))) (counts_of (set l k (record { head = a; count = n }))) (k + 1)
-read_turn h l k a n b ea en c =
-    let x : Chain = record { head = a; count = n } in
-    rw (heads_set l k x, counts_set l k x) (reads_turn h (heads_of l) (counts_of l) k a n b ea en c)
+    (h : List ℕ) (l : List Entry) (k : ℕ) (x : Entry) → k < 12 → x.head ≡ get_or h (24 + 2 * k) 0 → x.count ≡ get_or h (25 + 2 * k) 0 → Reads h (heads_of l) (counts_of l) k
+    → Reads h (heads_of (set l k x)) (counts_of (set l k x)) (k + 1)
+read_turn h l k x b ea en c = rw (heads_set l k x, counts_set l k x) (reads_turn h (heads_of l) (counts_of l) k x.head x.count b ea en c)
 
-module _ (chains packed : List Chain) (k place v : ℕ) (ev : v ≡ first_for place (get_or chains k none).count) where
+module _ (chains packed : List Entry) (k place v : ℕ) (ev : v ≡ first_for place (get_or chains k none).count) where
   pub packed_turn :
       1 ≤ k → k < 12 → (counts_of packed ≡ counts_of chains) × Starts (counts_of chains) (heads_of packed) (k - 1) place
       → (counts_of (set packed k (record { head = v; count = (get_or packed k none).count })) ≡ counts_of chains)

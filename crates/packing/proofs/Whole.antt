@@ -23,7 +23,7 @@ use Rattle.layout.proofs.PackedBack.{length_free}
 use Rattle.layout.proofs.PackedGood.{used_all}
 use Rattle.packing.specs.Heads.{sum_to, first_for, start_of, header_from}
 use Rattle.packing.specs.Writing.{chains_of, Rows}
-use Rattle.packing.proofs.Copied.{chain_row}
+use Rattle.queue_event.proofs.Laws.{chain_row}
 use Rattle.packing.proofs.Headers.{first_none, first_some}
 
 -- ---- chains 1 to n that are the same

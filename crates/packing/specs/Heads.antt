@@ -1,15 +1,15 @@
 -- The header of a packed state, by the counts of its chains. Assumes nothing.
 use Rattle.std.specs.Prelude.{ℕ, zero, suc, ◌+◌, ◌-◌, ◌≤◌, ◌<◌, ◌≡◌, List, eqb, length, get_or, map, if◌then◌else◌}
-use Rattle.packing.specs.declared.header.Chain.{Chain}
+use Rattle.queue_event.specs.declared.chain.Entry.{Entry}
 use Rattle.layout.specs.Records.{chain_count, head_of, count_of}
 use Rattle.layout.specs.Packed.{header_word}
 
 -- the heads and the counts of chains, each by itself
-abbrev pub heads_of : List Chain → List ℕ
-heads_of l = map (λ (c : Chain). c.head) l
+abbrev pub heads_of : List Entry → List ℕ
+heads_of l = map (λ (c : Entry). c.head) l
 
-abbrev pub counts_of : List Chain → List ℕ
-counts_of l = map (λ (c : Chain). c.count) l
+abbrev pub counts_of : List Entry → List ℕ
+counts_of l = map (λ (c : Entry). c.count) l
 
 -- the records of chains 1 to k, from the counts of all
 unfoldable pub sum_to : List ℕ → ℕ → ℕ

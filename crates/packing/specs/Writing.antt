@@ -2,7 +2,7 @@
 use Rattle.std.specs.Prelude.{ℕ, suc, ◌+◌, ◌-◌, ◌*◌, ◌≤◌, ◌<◌, ◌≡◌, List, ◌++◌, length, get_or, take}
 use Rattle.queue_event.specs.Chain.{Rec, contents}
 use Rattle.layout.specs.Packed.{chain_words, used_to, used_words, zero_recs}
-use Rattle.packing.specs.Copying.{Row}
+use Rattle.queue_event.specs.Rows.{Row}
 
 -- what stands in chain k, where these are the heads and counts
 unfoldable pub chains_of : List ℕ → List ℕ → List ℕ → ℕ → List Rec

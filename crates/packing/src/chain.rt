@@ -1,10 +1,13 @@
 // One chain, written as records in a row.
 ghost use Rattle.std.specs.Prelude.{◌≡◌, ◌++◌, ◌+◌, ◌-◌, ◌*◌, ◌≤◌, ◌<◌, length, take};
 ghost use Rattle.queue_event.specs.Words.{In};
-ghost use Rattle.queue_event.specs.Chain.{contents};
+ghost use Rattle.queue_event.specs.Chain.{recs};
+ghost use Rattle.queue_event.specs.Walks.{left};
 ghost use Rattle.layout.specs.Packed.{chain_words};
-ghost use Rattle.packing.specs.Copying.{Row, link_of, copied};
+ghost use Rattle.packing.specs.Copying.{link_of, copied};
 
+use queue_event::chain::Linked;
+use queue_event::read::Record;
 use queue_event::words;
 
 // The link of the record at place, where so many are left from it on: 0 for the last.
@@ -16,30 +19,26 @@ pub fn link(left: u64, place: u64) -> u64
     if left == 1 { 0 } else { place + 1 }
 }
 
-// Record `at` of rest, written as record `place` of out with this link.
-fn copy_record(rest: &[u64], at: u64, out: &mut [u64], place: u64, next: u64)
-    requires from { In rest.now at }
-    requires to { In out.old place }
-    ensures { out.new ≡ copied rest.now at out.old place next }
+// A record, written as record `place` of out with this link.
+fn copy_record(from: &Record, out: &mut [u64], place: u64, next: u64)
+    requires { In out.old place }
+    ensures { out.new ≡ copied from.now.records.now from.now.at out.old place next }
 {
-    let moment = words::get(rest, at, 1);
-    let length = words::get(rest, at, 2);
-    let tag = words::get(rest, at, 3);
-    words::fill(out, place, next, moment, length, tag);
+    let moment = from.moment();
+    let length = from.length();
+    let tag = from.tag();
+    words::fill(out, place, next, moment.0, length.0, tag);
 }
 
-// The count records that are linked from head, written as the records from place on.
-pub fn copy_chain(rest: &[u64], head: u64, count: u64, out: &mut [u64], place: u64)
-    requires row { Row rest.now count head }
+// The records of a chain, written as the records from place on.
+pub fn copy_chain(from: &Linked, out: &mut [u64], place: u64)
     requires one { 1 ≤ place }
-    requires room { 4 * (place + count) ≤ length out.old + 4 }
-    ensures { take (4 * (place + count) - 4) out.new
-        ≡ take (4 * place - 4) out.old ++ chain_words place (contents rest.now count head) }
+    requires room { 4 * (place + from.now.chain.count) ≤ length out.old + 4 }
+    ensures { take (4 * (place + from.now.chain.count) - 4) out.new
+        ≡ take (4 * place - 4) out.old ++ chain_words place (recs (left from.now)) }
 {
-    let mut at = head;
-    for i in 0..count {
-        let next = link(count - i, place + i);
-        copy_record(rest, at, out, place + i, next);
-        at = words::get(rest, at, 0);
+    let end = place + from.chain.count;
+    for (p, r) in (place..end).zip(*from) {
+        copy_record(&r, out, p, link(end - p, p));
     }
 }

@@ -6,6 +6,7 @@ ghost use Rattle.layout.specs.Spare.{spare as spare_at};
 ghost use Rattle.packing.specs.Heads.{sum_to, first_for, start_of, header_from, heads_of, counts_of};
 
 use layout::HEADER_WORDS;
+use queue_event::chain::Entry;
 
 // Whether word i of the header has no meaning.
 #[tactic(auto, unfolding(layout::specs::Spare::spare))]
@@ -15,25 +16,14 @@ fn spare(i: usize) -> bool
     matches!(i, 18..=23 | 48..=63 | 192..=255)
 }
 
-// A chain as a header names it: its first record, 0 for none, and how many it has.
-#[derive(Clone, Copy)]
-pub struct Chain {
-    pub head: u64,
-    pub count: u64,
-}
-
 // The twelve chains of a header.
-pub fn read_chains(head: &[u64]) -> [Chain; 12]
-    requires { length head.now ≡ 256 }
+pub fn read_chains(head: &[u64; 256]) -> [Entry; 12]
     ensures heads { (k : ℕ) → k < 12 → get_or (heads_of result) k 0 ≡ head_of head.now k }
     ensures counts { (k : ℕ) → k < 12 → get_or (counts_of result) k 0 ≡ count_of head.now k }
 {
-    let mut chains = [Chain { head: 0, count: 0 }; 12];
+    let mut chains = [Entry { head: 0, count: 0 }; 12];
     for k in 0..12 {
-        chains[k] = Chain {
-            head: head[24 + 2 * k],
-            count: head[25 + 2 * k],
-        };
+        chains[k] = Entry::of(head, k);
     }
     chains
 }
@@ -46,7 +36,7 @@ fn first(place: u64, count: u64) -> u64
 }
 
 // The chains as they are packed: 1 to 11 from record 1 on, then the free one.
-pub fn start_chains(chains: &[Chain; 12]) -> [Chain; 12]
+pub fn start_chains(chains: &[Entry; 12]) -> [Entry; 12]
     requires { sum_to (counts_of chains.now) 11 ≤ 65535 }
     ensures heads { (k : ℕ) → k < 12 → get_or (heads_of result) k 0 ≡ start_of (counts_of chains.now) k }
     ensures counts { counts_of result ≡ counts_of chains.now }
@@ -62,8 +52,8 @@ pub fn start_chains(chains: &[Chain; 12]) -> [Chain; 12]
 }
 
 // Word i of a header, with these chains in the place of its own.
-fn header_word(head: &[u64], chains: &[Chain; 12], i: usize) -> u64
-    requires { (length head.now ≡ 256) × (i < 256) }
+fn header_word(head: &[u64; 256], chains: &[Entry; 12], i: usize) -> u64
+    requires { i < 256 }
     ensures { result ≡ header_from head.now (heads_of chains.now) (counts_of chains.now) i }
 {
     if spare(i) {
@@ -77,8 +67,8 @@ fn header_word(head: &[u64], chains: &[Chain; 12], i: usize) -> u64
 }
 
 // The header of out, whatever it held: that of head, with these chains.
-pub fn write_header(head: &[u64], chains: &[Chain; 12], out: &mut [u64])
-    requires { (length head.now ≡ 256) × (256 ≤ length out.old) }
+pub fn write_header(head: &[u64; 256], chains: &[Entry; 12], out: &mut [u64])
+    requires { 256 ≤ length out.old }
     ensures { take 256 out.new ≡ table 256 (header_from head.now (heads_of chains.now) (counts_of chains.now)) }
 {
     for i in 0..HEADER_WORDS {

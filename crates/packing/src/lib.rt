@@ -13,11 +13,11 @@ use layout::HEADER_WORDS;
 
 // The packed form of an accepted block, written into another of its length, whatever that held.
 pub fn pack(block: &[u64], out: &mut [u64])
-    requires fact_1 { Accepted block.now }
-    requires fact_2 { length out.old ≡ length block.now }
+    requires accepted { Accepted block.now }
+    requires long { length out.old ≡ length block.now }
     ensures { out.new ≡ packed_words block.now }
 {
-    let (head, rest) = block.split_at(HEADER_WORDS);
+    let (head, rest) = block.split_first_chunk::<HEADER_WORDS>().unwrap();
     let chains = header::read_chains(head);
     let packed = header::start_chains(&chains);
     header::write_header(head, &packed, out);

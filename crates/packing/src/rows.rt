@@ -5,11 +5,11 @@ ghost use Rattle.packing.specs.Writing.{chains_of, Rows};
 ghost use Rattle.packing.specs.Heads.{heads_of, counts_of};
 
 use crate::chain;
-use crate::header::Chain;
+use queue_event::chain::{Entry, Linked};
 use queue_event::words;
 
 // The chains 1 to 11, written from record 1 on. Answers the record after them.
-fn write_chains(rest: &[u64], chains: &[Chain; 12], out: &mut [u64]) -> u64
+fn write_chains(rest: &[u64], chains: &[Entry; 12], out: &mut [u64]) -> u64
     requires rows { Rows rest.now (heads_of chains.now) (counts_of chains.now) }
     requires counts_in_bounds { 4 * used_to (chains_of rest.now (heads_of chains.now) (counts_of chains.now)) 11 ≤ length out.old }
     ensures value { result ≡ suc (used_to (chains_of rest.now (heads_of chains.now) (counts_of chains.now)) 11) }
@@ -18,7 +18,11 @@ fn write_chains(rest: &[u64], chains: &[Chain; 12], out: &mut [u64]) -> u64
 {
     let mut place = 1;
     for k in 1..12 {
-        chain::copy_chain(rest, chains[k].head, chains[k].count, out, place);
+        let chain = Linked {
+            records: rest,
+            chain: chains[k],
+        };
+        chain::copy_chain(&chain, out, place);
         place += chains[k].count;
     }
     place
@@ -37,7 +41,7 @@ fn write_free(out: &mut [u64], place: u64, count: u64)
 }
 
 // All records of out, whatever they held: of each chain its count, from its head, and of the free one its count.
-pub fn write_records(rest: &[u64], chains: &[Chain; 12], out: &mut [u64])
+pub fn write_records(rest: &[u64], chains: &[Entry; 12], out: &mut [u64])
     requires rows { Rows rest.now (heads_of chains.now) (counts_of chains.now) }
     requires out_len { length out.old
         ≡ 4 * (used_to (chains_of rest.now (heads_of chains.now) (counts_of chains.now)) 11 + get_or (counts_of chains.now) 0 0) }

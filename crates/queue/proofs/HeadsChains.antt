@@ -3,7 +3,7 @@ use Prim.Native.Nat.{ℕ, zero, suc, ◌+◌, ◌*◌, ◌%◌, ◌^◌, ◌<◌
 use mathlib.Core.Path.{◌≡◌, refl, sym, ap, subst, ◌∙◌}
 use mathlib.Core.Bool.{Bool, true, false}
 use mathlib.Core.List.{List, map}
-use mathlib.Core.Option.{some}
+use mathlib.Core.Option.{some as some_of}
 use native.Mathlib.Omega.{arith}
 use Rattle.moment.specs.declared.Moment.{Moment}
 use Rattle.rules.specs.Basics.{Side, client, server}
@@ -99,68 +99,57 @@ module _ (h rs : List ℕ) (q : Queue) (b : Bool) (k : ℕ) (ek : k ≡ number_o
       ∙ ap (map (held_event (side_of b))) (chains_at h rs k (omega (arith, small)))
 
   -- an empty chain
-  pub none_there : (m plus : ℕ) → m ≡ count_of h k → m ≡ 0 → Peeked h rs b None (head_as (queue_of q) plus (queue (side_held h rs b).queues (queue_of q)))
+  pub none_there : (plus : ℕ) → count_of h k ≡ 0 → Peeked h rs b None (head_as (queue_of q) plus (queue (side_held h rs b).queues (queue_of q)))
   unfolding found_of Stands head_as nodes
-  none_there m plus em e =
+  none_there plus e =
       record {
-        is = sym (ap (head_as (queue_of q) plus) (queue_is ∙ ap (λ i. map (held_event (side_of b)) (nodes rs i (head_of h k))) (sym em ∙ e)));
+        is = sym (ap (head_as (queue_of q) plus) (queue_is ∙ ap (λ i. map (held_event (side_of b)) (nodes rs i (head_of h k))) e));
         stands = tt;
       }
 
-  module _ (g : Good h rs) (m : ℕ) (em : m ≡ count_of h k) (ne : m ≡ 0 → ⊥) where
-    more : 0 < count_of h k
-    more = go m em ne
-      where
-        go : (x : ℕ) → x ≡ count_of h k → (x ≡ 0 → ⊥) → 0 < count_of h k
-        go x e d = subst (λ y. 0 < y) e (pos x d)
-          where
-            pos : (y : ℕ) → (y ≡ 0 → ⊥) → 0 < y
-            pos y q = omega (arith, q)
-
+  -- the record p of the words rs', which is its first
+  module _ (g : Good h rs) (some : 0 < count_of h k) (rs' : List ℕ) (p : ℕ) (ep : p ≡ head_of h k) (er : rs' ≡ rs) where
     link : LinkOk rs k (machines_for h k) 0 0 (head_of h k)
-    link = head_link h rs k g (omega (arith, small)) more
-
-    pub head_within : (p : ℕ) → p ≡ head_of h k → In rs p
-    head_within p ep = rw ep link.within
+    link = head_link h rs k g (omega (arith, small)) some
 
     -- its event's moment
-    pub head_moment : (p : ℕ) (e : SimEvent) → p ≡ head_of h k → e ≡ read_event b (rec_at rs p) → e.moment.0 ≤ moment_limit
+    pub head_moment : (e : SimEvent) → e ≡ read_event b (rec_at rs' p) → e.moment.0 ≤ moment_limit
     unfolding rec_at
-    head_moment p e ep ee = rw (ee, ep) (link.holds.event (omega (arith, place, range.0)) (omega (arith, small))).moments
+    head_moment e ee = rw (ee, ep, er) (link.holds.event (omega (arith, place, range.0)) (omega (arith, small))).moments
 
     -- the sum fits a word
-    pub head_plus : (p : ℕ) (e : SimEvent) (plus : ℕ) → p ≡ head_of h k → e ≡ read_event b (rec_at rs p) → plus ≤ moment_limit → e.moment.0 + plus < 2 ^ 64
-    head_plus p e plus ep ee l = omega (arith, head_moment p e ep ee)
+    pub head_plus : (e : SimEvent) (plus : ℕ) → e ≡ read_event b (rec_at rs' p) → plus ≤ moment_limit → e.moment.0 + plus < 2 ^ 64
+    head_plus e plus ee l = omega (arith, head_moment e ee)
 
-    head_kind : (p : ℕ) (e : SimEvent) → p ≡ head_of h k → e ≡ read_event b (rec_at rs p) → e.kind.0 ≤ 9
+    head_kind : (e : SimEvent) → e ≡ read_event b (rec_at rs' p) → e.kind.0 ≤ 9
     unfolding rec_at
-    head_kind p e ep ee = rw (ee, ep) (link.holds.shape.event (omega (arith, place, range.0)) (omega (arith, small))).kind.kinds
+    head_kind e ee = rw (ee, ep, er) (link.holds.shape.event (omega (arith, place, range.0)) (omega (arith, small))).kind.kinds
 
     -- the head, with the length added to its moment
     pub first_there :
-        (p : ℕ) (e : SimEvent) (t : Moment) (plus : ℕ) → p ≡ head_of h k → e ≡ read_event b (rec_at rs p) → t.0 ≡ e.moment.0 + plus → plus ≤ moment_limit
+        (e : SimEvent) (t : Moment) (plus : ℕ) → e ≡ read_event b (rec_at rs' p) → t.0 ≡ e.moment.0 + plus → plus ≤ moment_limit
         → Peeked h rs b (Some (record { queue = q; place = p; event = e; moment = t })) (head_as (queue_of q) plus (queue (side_held h rs b).queues (queue_of q)))
     unfolding found_of head_from Stands head_as rec_at
-    first_there p e t plus ep ee et lp =
+    first_there e t plus ee et lp =
         record {
-          is = same ∙ sym (ap (head_as (queue_of q) plus) (queue_is ∙ ap (map (held_event (side_of b))) (nodes_next rs (count_of h k) (head_of h k) more)));
+          is = same ∙ sym (ap (head_as (queue_of q) plus) (queue_is ∙ ap (map (held_event (side_of b))) (nodes_next rs (count_of h k) (head_of h k) some)));
           stands =
               record {
-                some = subst (λ i. 0 < count_of h i) ek more;
+                some = subst (λ i. 0 < count_of h i) ek some;
                 first = ep ∙ ap (head_of h) ek;
-                within = head_within p ep;
-                event = ee;
+                within = subst (In rs) (sym ep) link.within;
+                event = ee ∙ ap (λ (r : List ℕ). read_event b (rec_at r p)) er;
                 side = ap (λ (x : SimEvent). x.client) ee;
-                kind = head_kind p e ep ee;
-                raw = head_moment p e ep ee;
-                moment = omega (arith, head_moment p e ep ee);
+                kind = head_kind e ee;
+                raw = head_moment e ee;
+                moment = omega (arith, head_moment e ee);
               };
         }
       where
         told : event_value e ≡ event_from (side_of b) (rec_at rs (head_of h k))
-        told = ap event_value ee ∙ event_same b (rec_at rs p) ∙ ap (λ i. event_from (side_of b) (rec_at rs i)) ep
+        told = ap event_value ee ∙ event_same b (rec_at rs' p) ∙ (λ d. event_from (side_of b) (rec_at (er d) (ep d)))
 
         same :
             found_of (Some (record { queue = q; place = p; event = e; moment = t }))
-            ≡ some (record { chain = queue_of q; place = head_of h k; event = event_from (side_of b) (rec_at rs (head_of h k)); moment = (event_from (side_of b) (rec_at rs (head_of h k))).moment + plus })
-        same = λ d. some (record { chain = queue_of q; place = ep d; event = told d; moment = (et ∙ ap (λ (x : Event). x.moment + plus) told) d })
+            ≡ some_of (record { chain = queue_of q; place = head_of h k; event = event_from (side_of b) (rec_at rs (head_of h k)); moment = (event_from (side_of b) (rec_at rs (head_of h k))).moment + plus })
+        same = λ d. some_of (record { chain = queue_of q; place = ep d; event = told d; moment = (et ∙ ap (λ (x : Event). x.moment + plus) told) d })

@@ -9,9 +9,9 @@ use lib.ListN.{get_or}
 use Rattle.moment.specs.declared.Moment.{Moment}
 use Rattle.std.specs.Prelude.{if◌then◌else◌, Option, Some, None}
 use Rattle.rules.specs.Basics.{before, rank}
-use Rattle.rules.specs.State.{SideState}
+use Rattle.rules.specs.State.{SideState, queue}
 use Rattle.rules.specs.Limits.{moment_limit}
-use Rattle.rules.specs.ChoiceHeads.{first_by, by_moment, by_delay, side_head, queue_head, Head as RulesHead}
+use Rattle.rules.specs.ChoiceHeads.{head_as, first_by, by_moment, by_delay, side_head, queue_head, Head as RulesHead}
 use Rattle.event.specs.HandedIn.{side_of}
 use Rattle.queue_event.specs.Words.{word}
 use Rattle.queue_event.specs.Chain.{rec_at}
@@ -26,6 +26,7 @@ use Rattle.queue.specs.declared.header.Queue.{Queue}
 use Rattle.queue.specs.declared.header.Queue.TheVariants.{Base, Blocking, Bypassable, Internal}
 use Rattle.queue.specs.declared.peek.Head.{Head}
 use Rattle.queue.specs.declared.peek.Key.{Key}
+use Rattle.queue.specs.Queues.{queue_of}
 use Rattle.queue.specs.Heads.{found_of, head_from, side_held, number_of, Stands, Peeked, PeekedBoth, added_to, chain_head, key_head, Tells, KeyOf, FirstKey, SecondSooner}
 use Rattle.event.specs.declared.SimEvent.{SimEvent}
 use Rattle.queue.proofs.HeadsChains.{none_there, head_moment, head_plus, first_there}
@@ -45,48 +46,53 @@ added_small h rs b Internal g = omega arith
 
 -- ---- the head and the key of a queue
 
--- k is the number of the chain of the side's queue q
-module _ (h rs : List ℕ) (q : Queue) (b : Bool) (k : ℕ) (ek : k ≡ number_of q b) (m : ℕ) (em : m ≡ count_of h k) where
-  -- an empty chain
-  pub head_none : m ≡ 0 → Peeked h rs b None (chain_head q (side_held h rs b))
-  head_none e = none_there h rs q b k ek m (added_to q (side_held h rs b)) em e
+-- docs/PORT.md names it
+pub chain_head_lem : (q : Queue) (x : SideState) → head_as (queue_of q) (added_to q x) (queue x.queues (queue_of q)) ≡ chain_head q x
+chain_head_lem q x = refl
 
-  pub key_none : m ≡ 0 → KeyOf (side_held h rs b) None (chain_head q (side_held h rs b))
+-- k is the number of the chain of the side's queue q
+module _ (h rs : List ℕ) (q : Queue) (b : Bool) (k : ℕ) (ek : k ≡ number_of q b) where
+  -- an empty chain
+  pub head_none : count_of h k ≡ 0 → Peeked h rs b None (chain_head q (side_held h rs b))
+  head_none e = none_there h rs q b k ek (added_to q (side_held h rs b)) e
+
+  pub key_none : count_of h k ≡ 0 → KeyOf (side_held h rs b) None (chain_head q (side_held h rs b))
   unfolding found_of Tells
   key_none e = record { is = empty; tells = subst (Tells None) empty tt }
     where
       empty : none ≡ chain_head q (side_held h rs b)
       empty = (head_none e).is
 
-  module _ (g : Good h rs) (ne : m ≡ 0 → ⊥) (p : ℕ) (eh : p ≡ head_of h k) (plus : ℕ) (ep : plus ≡ added_to q (side_held h rs b)) where
+  -- its first record, the record p of the words rs'
+  module _ (g : Good h rs) (some : 0 < count_of h k) (rs' : List ℕ) (p : ℕ) (eh : p ≡ head_of h k) (er : rs' ≡ rs) (plus : ℕ) (ep : plus ≡ added_to q (side_held h rs b)) where
     small : plus ≤ moment_limit
     small = rw ep (added_small h rs b q g)
 
     -- the sum fits a word
-    pub head_fits : (e : SimEvent) → e ≡ read_event b (rec_at rs p) → e.moment.0 + plus < 2 ^ 64
-    head_fits e ee = head_plus h rs q b k ek g m em ne p e plus eh ee small
+    pub head_fits : (e : SimEvent) → e ≡ read_event b (rec_at rs' p) → e.moment.0 + plus < 2 ^ 64
+    head_fits e ee = head_plus h rs q b k ek g some rs' p eh er e plus ee small
 
     pub head_some :
-        (e : SimEvent) (t : Moment) → e ≡ read_event b (rec_at rs p) → t.0 ≡ e.moment.0 + plus
+        (e : SimEvent) (t : Moment) → e ≡ read_event b (rec_at rs' p) → t.0 ≡ e.moment.0 + plus
         → Peeked h rs b (Some (record { queue = q; place = p; event = e; moment = t })) (chain_head q (side_held h rs b))
-    head_some e t ee et = rw (← ep) (first_there h rs q b k ek g m em ne p e t plus eh ee et small)
+    head_some e t ee et = rw (← ep) (first_there h rs q b k ek g some rs' p eh er e t plus ee et small)
 
-    pub key_plus : (i : ℕ) → i ≡ word rs p 1 → i + plus < 2 ^ 64
+    pub key_plus : (i : ℕ) → i ≡ word rs' p 1 → i + plus < 2 ^ 64
     unfolding rec_at
-    key_plus i ei = omega (arith, small, head_moment h rs q b k ek g m em ne p (read_event b (rec_at rs p)) eh refl)
+    key_plus i ei = omega (arith, small, head_moment h rs q b k ek g some rs' p eh er (read_event b (rec_at rs' p)) refl)
 
     -- its head's moment, with what is added, and its rank
     pub key_some :
-        (i w v c : ℕ) (t : Moment) → i ≡ word rs p 1 → t.0 ≡ i + plus → w ≡ word rs p 3 → v ≡ kind_field w → c ≡ v
+        (i w v c : ℕ) (t : Moment) → i ≡ word rs' p 1 → t.0 ≡ i + plus → w ≡ word rs' p 3 → v ≡ kind_field w → c ≡ v
         → KeyOf (side_held h rs b) (Some (record { queue = q; moment = t; rank = c })) (chain_head q (side_held h rs b))
     unfolding found_of head_from Stands Tells rec_at
     key_some i w v c t ei et ew ev ec = record { is = refl; tells = subst (Tells (Some (record { queue = q; moment = t; rank = c }))) there.is (refl, ranked) }
       where
-        there : Peeked h rs b (Some (record { queue = q; place = p; event = read_event b (rec_at rs p); moment = t })) (chain_head q (side_held h rs b))
-        there = head_some (read_event b (rec_at rs p)) t refl (et ∙ ap (λ j. j + plus) ei)
+        there : Peeked h rs b (Some (record { queue = q; place = p; event = read_event b (rec_at rs' p); moment = t })) (chain_head q (side_held h rs b))
+        there = head_some (read_event b (rec_at rs' p)) t refl (et ∙ ap (λ j. j + plus) ei)
 
-        ranked : c ≡ rank (head_from (record { queue = q; place = p; event = read_event b (rec_at rs p); moment = t })).event.kind
-        ranked = ec ∙ ev ∙ ap kind_field ew ∙ sym (rank_kind (kind_field (word rs p 3)) (omega (arith, there.stands.kind)))
+        ranked : c ≡ rank (head_from (record { queue = q; place = p; event = read_event b (rec_at rs' p); moment = t })).event.kind
+        ranked = ec ∙ ev ∙ ap kind_field ew ∙ sym (rank_kind (kind_field (word rs' p 3)) (omega (arith, there.stands.kind)))
 
 -- ---- what two keys tell of their heads
 

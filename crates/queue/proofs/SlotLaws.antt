@@ -2,7 +2,7 @@
 use Prim.Native.Nat.{ℕ, zero, suc, ◌+◌, ◌*◌, ◌<◌, ◌≤◌, ◌/◌, ◌%◌}
 use mathlib.Core.Path.{◌≡◌, refl, sym, ap, ◌∙◌}
 use mathlib.Core.Bool.{Bool, true, false}
-use mathlib.Core.List.{List, [], ◌∷◌, map}
+use mathlib.Core.List.{List, ◌∷◌, map}
 use mathlib.Core.Option
 use mathlib.Core.Option.{Option, none, some}
 use native.Mathlib.Omega.{arith}
@@ -16,9 +16,9 @@ use Rattle.layout.specs.Changes.{side_no}
 use Rattle.layout.specs.Header.{Limited, SlotsOk, machines_of}
 use Rattle.layout.specs.Layout.{less_one, action_from, bank, firsts, state_from}
 use Rattle.layout.proofs.Banks.{bank_at}
-use Rattle.queue.specs.declared.view.Words.{Words}
+use Rattle.queue.specs.Heads.{side_held}
 use Rattle.queue.specs.Slots.{held_at}
-use Rattle.queue.specs.Views.{moment_no, side_in}
+use Rattle.queue.specs.Views.{moment_no}
 use Rattle.queue.proofs.ViewLaws.{stored_moment}
 
 -- ---- a list of slots
@@ -148,24 +148,22 @@ module _ (h rs : List ℕ) (b : Bool) where
           go zero q = absurd (q refl)
           go (suc k) q = refl
 
--- ---- the laws of both kinds of slots
+-- ---- the laws of both kinds of slots, whatever the records
 
-pub timers_sixteen : (v : Words) (client : Bool) → length (side_in v client).timers ≡ 16
-timers_sixteen v b = ap (λ (l : List (Option ℕ)). length l) (timers_are v.header.now v.records.now b) ∙ length_firsts 16 (timer v.header.now v.records.now b)
+pub timers_sixteen : (h rs : List ℕ) (client : Bool) → length (side_held h rs client).timers ≡ 16
+timers_sixteen h rs b = ap (λ (l : List (Option ℕ)). length l) (timers_are h rs b) ∙ length_firsts 16 (timer h rs b)
 
-pub actions_sixteen : (v : Words) (client : Bool) → length (action_moments (side_in v client)) ≡ 16
-actions_sixteen v b = ap (λ (l : List (Option ℕ)). length l) (actions_are v.header.now v.records.now b) ∙ length_firsts 16 (moment v.header.now v.records.now b)
+pub actions_sixteen : (h rs : List ℕ) (client : Bool) → length (action_moments (side_held h rs client)) ≡ 16
+actions_sixteen h rs b = ap (λ (l : List (Option ℕ)). length l) (actions_are h rs b) ∙ length_firsts 16 (moment h rs b)
 
-pub timers_beyond : (v : Words) (client : Bool) (m : ℕ) → SlotsOk v.header.now → (side_in v client).fixed.machines ≤ m → held_at (side_in v client).timers m ≡ none
-timers_beyond v b m ok past =
-    ap (λ l. held_at l m) (timers_are v.header.now v.records.now b)
-    ∙ held_none 16 m (timer v.header.now v.records.now b) (no_timer v.header.now v.records.now b ok m (rw (← machines_are v.header.now v.records.now b) past))
+pub timers_beyond : (h rs : List ℕ) (client : Bool) (m : ℕ) → SlotsOk h → (side_held h rs client).fixed.machines ≤ m → held_at (side_held h rs client).timers m ≡ none
+timers_beyond h rs b m ok past =
+    ap (λ l. held_at l m) (timers_are h rs b) ∙ held_none 16 m (timer h rs b) (no_timer h rs b ok m (rw (← machines_are h rs b) past))
 
-pub actions_beyond : (v : Words) (client : Bool) (m : ℕ) → SlotsOk v.header.now → (side_in v client).fixed.machines ≤ m → held_at (action_moments (side_in v client)) m ≡ none
-actions_beyond v b m ok past =
-    ap (λ l. held_at l m) (actions_are v.header.now v.records.now b)
-    ∙ held_none 16 m (moment v.header.now v.records.now b) (no_action v.header.now v.records.now b ok m (rw (← machines_are v.header.now v.records.now b) past))
+pub actions_beyond : (h rs : List ℕ) (client : Bool) (m : ℕ) → SlotsOk h → (side_held h rs client).fixed.machines ≤ m → held_at (action_moments (side_held h rs client)) m ≡ none
+actions_beyond h rs b m ok past =
+    ap (λ l. held_at l m) (actions_are h rs b) ∙ held_none 16 m (moment h rs b) (no_action h rs b ok m (rw (← machines_are h rs b) past))
 
 -- the machines of a side, as they are read
-pub machines_in : (v : Words) (b : Bool) (n : ℕ) → Limited v.header.now → n ≡ get_or v.header.now (8 + side_no (side_of b)) 0 → ((side_in v b).fixed.machines ≡ n) × (n ≤ 16)
-machines_in v b n few e = (machines_are v.header.now v.records.now b ∙ sym e, machines_few v.header.now b n few e)
+pub machines_held : (h rs : List ℕ) (b : Bool) (n : ℕ) → n ≡ get_or h (8 + side_no (side_of b)) 0 → (side_held h rs b).fixed.machines ≡ n
+machines_held h rs b n e = machines_are h rs b ∙ sym e

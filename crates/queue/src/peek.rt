@@ -1,6 +1,5 @@
 // The heads of the queues, as queue_event.rs and queue.rs find them.
 ghost use Rattle.std.specs.Prelude.{◌≡◌, ◌≤◌, Bool};
-ghost use Rattle.rules.specs.Basics.{before as before_of};
 ghost use Rattle.rules.specs.ChoiceHeads.{Head as RulesHead, by_moment, by_raw_moment, side_head, queue_head, waiting_head, passing_head};
 ghost use Rattle.queue.specs.Heads.{head_from, Known, PeekedIn, PeekedBothIn, Chosen};
 ghost use Rattle.queue.specs.Heads.{added_to, chain_head, key_head, KeyOf, FirstKey, SecondSooner};
@@ -9,7 +8,7 @@ ghost use Rattle.queue.specs.Views.{state_in, side_in};
 use crate::{Queue, View, header};
 use event::{Kind, SimEvent};
 use moment::{Length, Moment};
-use queue_event::{read, tag, words};
+use queue_event::tag;
 
 // The head of a queue of a side: its record, its event, and its moment as the choice sees it.
 #[derive(Clone, Copy)]
@@ -43,28 +42,16 @@ fn added(view: &View, of: Queue, client: bool) -> Length
 fn head_of(view: &View, of: Queue, client: bool) -> Option<Head>
     ensures { PeekedIn view.now.words client result (chain_head of (side_in view.now.words client)) }
 {
-    let k = of.chain(client);
-    let count = view.words.count(k);
-    if count == 0 {
-        return None;
-    }
-    let place = view.words.first(k);
-    let event = read::event_at(view.words.records, place, client);
+    let first = view.head(of.chain(client))?;
+    let event = first.event(client);
     let plus = added(view, of, client);
     let moment = event.moment.plus(plus);
     Some(Head {
         queue: of,
-        place,
+        place: first.at,
         event,
         moment,
     })
-}
-
-// The pair (ma, ra) of moment and rank is strictly before (mb, rb).
-fn before(ma: u64, ra: u64, mb: u64, rb: u64) -> bool
-    ensures { result ≡ before_of ma ra mb rb }
-{
-    ma < mb || ma == mb && ra < rb
 }
 
 // An order of heads.
@@ -84,12 +71,7 @@ impl Order for ByMoment {
     ghost before = { by_moment };
 
     fn earlier(a: Head, b: Head) -> bool {
-        before(
-            a.moment.0,
-            a.event.kind.rank(),
-            b.moment.0,
-            b.event.kind.rank(),
-        )
+        (a.moment, a.event.kind.rank()) < (b.moment, b.event.kind.rank())
     }
 }
 
@@ -100,12 +82,7 @@ impl Order for ByRawMoment {
     ghost before = { by_raw_moment };
 
     fn earlier(a: Head, b: Head) -> bool {
-        before(
-            a.event.moment.0,
-            a.event.kind.rank(),
-            b.event.moment.0,
-            b.event.kind.rank(),
-        )
+        (a.event.moment, a.event.kind.rank()) < (b.event.moment, b.event.kind.rank())
     }
 }
 
@@ -127,16 +104,10 @@ pub fn first_of<O: Order>(a: Option<Head>, b: Option<Head>) -> Option<Head>
 fn key_of(view: &View, of: Queue, client: bool) -> Option<Key>
     ensures { KeyOf (side_in view.now.words client) result (chain_head of (side_in view.now.words client)) }
 {
-    let k = of.chain(client);
-    let count = view.words.count(k);
-    if count == 0 {
-        return None;
-    }
-    let place = view.words.first(k);
-    let queued = Moment(words::get(view.words.records, place, 1));
+    let first = view.head(of.chain(client))?;
     let plus = added(view, of, client);
-    let moment = queued.plus(plus);
-    let kind = Kind(tag::kind(words::get(view.words.records, place, 3)));
+    let moment = first.moment().plus(plus);
+    let kind = Kind(tag::kind(first.tag()));
     Some(Key {
         queue: of,
         moment,
@@ -145,6 +116,7 @@ fn key_of(view: &View, of: Queue, client: bool) -> Option<Key>
 }
 
 // The first of two keys, unless the second is strictly earlier.
+// Not `first_of` of a generic type: that promises the order of the rules' heads that two heads are, and a key is of no one head.
 fn first_key(a: Option<Key>, b: Option<Key>) -> Option<Key>
     ensures { FirstKey a b result }
 {
@@ -154,7 +126,7 @@ fn first_key(a: Option<Key>, b: Option<Key>) -> Option<Key>
     let Some(y) = b else {
         return a;
     };
-    if before(y.moment.0, y.rank, x.moment.0, x.rank) {
+    if (y.moment, y.rank) < (x.moment, x.rank) {
         b
     } else {
         a
@@ -196,7 +168,7 @@ fn server_sooner(client: Option<Key>, server: Option<Key>, time: Moment) -> bool
     };
     let x = c.moment.since(time);
     let y = s.moment.since(time);
-    before(y.0, s.rank, x.0, c.rank)
+    (y, s.rank) < (x, c.rank)
 }
 
 // `SimQueue::peek`: the client's on a tie in delay and rank.

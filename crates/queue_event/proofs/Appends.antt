@@ -1,5 +1,5 @@
 -- Laws of the end of a chain and of appending. Assumes nothing.
-use Prim.Native.Nat.{ℕ, zero, suc, ◌+◌, ◌-◌, ◌≤◌, ◌<◌}
+use Prim.Native.Nat.{ℕ, zero, suc}
 use native.Mathlib.Omega.{arith}
 use mathlib.Core.Path.{◌≡◌, refl, sym, ap, ◌∙◌}
 use mathlib.Core.List.{List, [], ◌∷◌, ◌++◌}
@@ -7,23 +7,17 @@ use Rattle.queue_event.specs.Words.{put, filled, next_of, tag_of, In}
 use Rattle.queue_event.specs.Chain.{mark_of, Chain, Node, nodes}
 use Rattle.queue_event.specs.Links.{fresh, link_by, pred_by, Joined}
 use Rattle.queue_event.specs.Tail.{last_of, every, Appended}
-use Rattle.queue_event.specs.Loops.{Walks}
-use Rattle.queue_event.proofs.Laws.{chain_turn, nodes_turn, nodes_end}
-use Rattle.queue_event.proofs.Links.{zero_off, pred_not, pred_on, join_front, join_after}
+use Rattle.queue_event.proofs.Links.{zero_off, pred_not, join_front, join_after}
 
 -- ---- the walk to the last record
 
-pub last_turn : (rs : List ℕ) (goal c i h p h' : ℕ) → i < c → h' ≡ next_of rs h → Walks rs goal (c - i) h p → Walks rs goal (c - (i + 1)) h' h
+pub last_turn : (goal p : ℕ) (y : Node) (l x : List Node) → l ≡ y ∷ x → last_of l p ≡ goal → last_of x y.at ≡ goal
 unfolding last_of
-last_turn rs goal c i h p h' l eh z = rw eh (record {
-  mark = z.mark;
-  chain = chain_turn rs z.mark c i h l z.chain;
-  rest = sym (ap (λ x. last_of x p) (nodes_turn rs c i h l)) ∙ z.rest;
-})
+last_turn goal p y l x e z = sym (ap (λ q. last_of q p) e) ∙ z
 
-pub last_end : (rs : List ℕ) (goal c i h p : ℕ) → c ≤ i → Walks rs goal (c - i) h p → p ≡ goal
+pub last_end : (goal p : ℕ) (l : List Node) → l ≡ [] → last_of l p ≡ goal → p ≡ goal
 unfolding last_of
-last_end rs goal c i h p l z = sym (ap (λ x. last_of x p) (nodes_end rs c i h l)) ∙ z.rest
+last_end goal p l e z = sym (ap (λ q. last_of q p) e) ∙ z
 
 -- ---- appending is linking after all records
 
@@ -55,9 +49,6 @@ unfolding last_of nodes Chain
 head_zero rs k zero h p c ep e = c
 head_zero rs k (suc n) h p c ep e =
     absurd (pred_not every (nodes rs n (next_of rs h)) h 0 (zero_off rs k n (next_of rs h) c.2) (λ z. let l = c.0.one in omega arith) (sym (last_is (nodes rs n (next_of rs h)) h) ∙ sym ep ∙ e))
-
-pub last_in : (rs : List ℕ) (k n h p : ℕ) → Chain rs k n h → p ≡ last_of (nodes rs n h) 0 → (p ≡ 0 → ⊥) → In rs p
-last_in rs k n h p c ep d = (pred_on every rs k n h p c (ep ∙ last_is (nodes rs n h) 0) d).0
 
 appended : (rs rs' : List ℕ) (head count place m t r : ℕ) → Joined (mark_of t) (link_by every (fresh place m 0 t)) rs rs' head count place r → Appended rs rs' head count place m t r
 appended rs rs' head count place m t r j = record {

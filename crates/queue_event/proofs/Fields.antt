@@ -216,7 +216,3 @@ aggregate_small false = omega arith
 pub stamp_mark : (chain : ℕ) → chain < 16 → mark_of (stamp_tag chain) ≡ chain
 unfolding stamp_tag
 stamp_mark chain l = omega arith
-
-pub stamp_small : (chain : ℕ) → chain < 16 → stamp_tag chain < 65536
-unfolding stamp_tag
-stamp_small chain l = omega arith

@@ -1,5 +1,5 @@
 -- Laws of the order within a chain, of the search for a new record's place, and of insertion. Assumes nothing.
-use Prim.Native.Nat.{ℕ, ◌+◌, ◌-◌, ◌≤◌, ◌<◌}
+use Prim.Native.Nat.{ℕ, ◌≤◌, ◌<◌}
 use native.Mathlib.Omega.{arith}
 use mathlib.Core.Path.{◌≡◌, refl, sym, ap, ◌∙◌}
 use mathlib.Core.Bool.{Bool, true, false, not, ◌&&◌, ◌||◌}
@@ -8,11 +8,10 @@ use lib.Dec.{leb, ltb, eqb}
 use borrow.Author.Tests.{le-leb, lt-leb, le-ltb, lt-ltb, eq-eqb, ne_eqb, ltb-true, ltb-false, eqb-true, eqb-false}
 use Rattle.queue_event.specs.Words.{put, filled, next_of, moment_of, tag_of, In}
 use Rattle.queue_event.specs.Chain.{pick, mark_of, rank_of, Chain, rec_at, Node, nodes}
+use Rattle.queue_event.specs.Frame.{node}
 use Rattle.queue_event.specs.Links.{link_by, pred_by, Joined}
 use Rattle.queue_event.specs.Order.{stays, keeps, insert_sorted, spot, fresh, Inserted}
-use Rattle.queue_event.specs.Loops.{Seeks}
-use Rattle.queue_event.proofs.Laws.{chain_turn, nodes_turn, nodes_end}
-use Rattle.queue_event.proofs.Links.{pred_on, join_front, join_after}
+use Rattle.queue_event.proofs.Links.{join_front, join_after}
 
 -- ---- the order within a chain
 
@@ -36,13 +35,6 @@ module _ (a s b t : ℕ) where
   unfolding stays
   stays_same e = rw (le-ltb b a (omega arith), eq-eqb b a (sym e)) (sym (leb_not (rank_of s) (rank_of t)))
 
-  pub stays_more : b < a → stays a s b t ≡ false
-  unfolding stays
-  stays_more h = rw (lt-ltb b a h)
-
-pub stays_ranks : (a s b t x y : ℕ) → x ≡ rank_of s → y ≡ rank_of t → a ≡ b → leb x y ≡ stays a s b t
-stays_ranks a s b t x y ex ey e = rw (ex, ey) (sym (stays_same a s b t e))
-
 -- what the test says, either way
 pub stays_true : (a s b t : ℕ) → stays a s b t ≡ true → (a ≤ b) × (a ≡ b → rank_of s ≤ rank_of t)
 unfolding stays
@@ -64,26 +56,23 @@ stays_false a s b t = go (ltb b a) refl (eqb b a) refl (ltb (rank_of t) (rank_of
     go false p true q false u e = absurd (not_both true e)
     go false p false q z u e = absurd (not_both true e)
 
--- ---- the loop that seeks
+-- ---- the walk that seeks
 
-module _ (rs : List ℕ) (m t c i h p a s : ℕ) (b : Bool) (l : i < c) (ea : a ≡ moment_of rs h) (es : s ≡ tag_of rs h) (eb : b ≡ stays a s m t) where
-  spot_step : spot (nodes rs (c - i) h) p m t ≡ pick b (spot (nodes rs (c - (i + 1)) (next_of rs h)) h m t) p
+module _ (rs rs' : List ℕ) (m t goal p r a s : ℕ) (b : Bool) (l x : List Node) (e : l ≡ node rs r ∷ x) (er : rs' ≡ rs) (ea : a ≡ moment_of rs' r) (es : s ≡ tag_of rs' r) (eb : b ≡ stays a s m t)
+    (z : spot l p m t ≡ goal) where
+  spot_step : pick b (spot x r m t) p ≡ goal
   unfolding spot rec_at
-  spot_step = rw (eb, ea, es, nodes_turn rs c i h l)
+  spot_step = ap (λ c. pick c (spot x r m t) p) (rw (ea, es, er) at eb) ∙ sym (ap (λ y. spot y p m t) e) ∙ z
 
-  pub seek_turn : (goal h' : ℕ) → b ≡ true → h' ≡ next_of rs h → Seeks rs m t goal (c - i) h p → Seeks rs m t goal (c - (i + 1)) h' h
-  seek_turn goal h' e eh z = rw eh (record {
-    mark = z.mark;
-    chain = chain_turn rs z.mark c i h l z.chain;
-    rest = sym (rw e at spot_step) ∙ z.rest;
-  })
+  pub seek_turn : b ≡ true → spot x r m t ≡ goal
+  seek_turn k = rw k at spot_step
 
-  pub seek_stop : (goal : ℕ) → b ≡ false → Seeks rs m t goal (c - i) h p → p ≡ goal
-  seek_stop goal e z = sym (rw e at spot_step) ∙ z.rest
+  pub seek_stop : b ≡ false → p ≡ goal
+  seek_stop k = rw k at spot_step
 
-pub seek_end : (rs : List ℕ) (m t goal c i h p : ℕ) → c ≤ i → Seeks rs m t goal (c - i) h p → p ≡ goal
+pub seek_end : (m t goal p : ℕ) (l : List Node) → l ≡ [] → spot l p m t ≡ goal → p ≡ goal
 unfolding spot
-seek_end rs m t goal c i h p l z = sym (ap (λ x. spot x p m t) (nodes_end rs c i h l)) ∙ z.rest
+seek_end m t goal p l e z = sym (ap (λ y. spot y p m t) e) ∙ z
 
 -- ---- insertion is linking by the order within a chain
 
@@ -96,9 +85,6 @@ insert_is : (x : Node) (l : List Node) → link_by (keeps x.rec.moment x.rec.tag
 unfolding link_by insert_sorted
 insert_is x [] = refl
 insert_is x (y ∷ l) = ap (λ z. pick (keeps x.rec.moment x.rec.tag y) (y ∷ z) (x ∷ y ∷ l)) (insert_is x l)
-
-pub pred_in : (rs : List ℕ) (k n h m t p : ℕ) → Chain rs k n h → p ≡ spot (nodes rs n h) 0 m t → (p ≡ 0 → ⊥) → In rs p
-pred_in rs k n h m t p c ep d = (pred_on (keeps m t) rs k n h p c (ep ∙ spot_is m t (nodes rs n h) 0) d).0
 
 inserted : (rs rs' : List ℕ) (head count place m l t r : ℕ) → Joined (mark_of t) (link_by (keeps m t) (fresh place m l t)) rs rs' head count place r → Inserted rs rs' head count place m l t r
 inserted rs rs' head count place m l t r j = record {

@@ -8,7 +8,8 @@ use mathlib.Core.List.{List, [], ◌∷◌}
 use lib.ListN.{length, length-set}
 use lib.Seq.{get_or-set_same, get_or-set_other}
 use Rattle.queue_event.specs.Words.{word, put, next_of, In}
-use Rattle.queue_event.specs.Chain.{Chain, rec_at, nodes}
+use Rattle.queue_event.specs.Chain.{Chain, rec_at, Node, nodes}
+use Rattle.queue_event.specs.Rows.{Row}
 
 -- ---- words
 
@@ -51,20 +52,44 @@ module _ (rs : List ℕ) (k : ℕ) where
   chain_next zero h p c = absurd (not-suc-le-zero p)
   chain_next (suc n) h p c = rw sub-one c.2
 
+pub nodes_none : (rs : List ℕ) (n h : ℕ) → n ≡ 0 → nodes rs n h ≡ []
+unfolding nodes
+nodes_none rs n h e = rw e
+
+pub nodes_less : (l x : List Node) (y : Node) → l ≡ y ∷ x → length x < length l
+nodes_less l x y e = rw e (omega arith)
+
 pub nodes_next : (rs : List ℕ) (n h : ℕ) → 0 < n → nodes rs n h ≡ record { at = h; rec = rec_at rs h } ∷ nodes rs (n - 1) (next_of rs h)
 unfolding nodes
 nodes_next rs zero h p = absurd (not-suc-le-zero p)
 nodes_next rs (suc n) h p = rw sub-one
 
+-- ---- rows
+
+pub chain_row : (rs : List ℕ) (k n h : ℕ) → Chain rs k n h → Row rs n h
+unfolding Chain Row
+chain_row rs k zero h c = tt
+chain_row rs k (suc n) h c = (c.0, chain_row rs k n (next_of rs h) c.2)
+
+pub row_in : (rs : List ℕ) (n h : ℕ) → 0 < n → Row rs n h → In rs h
+unfolding Row
+row_in rs zero h p r = absurd (not-suc-le-zero p)
+row_in rs (suc n) h p r = r.0
+
+row_next : (rs : List ℕ) (n h : ℕ) → 0 < n → Row rs n h → Row rs (n - 1) (next_of rs h)
+unfolding Row
+row_next rs zero h p r = absurd (not-suc-le-zero p)
+row_next rs (suc n) h p r = rw sub-one r.1
+
+-- one step along it, as the code goes: from the record `at`, which is h, to m records from g on
+module _ (rs rs' : List ℕ) (n h at m g : ℕ) (p : 0 < n) (ea : at ≡ h) (er : rs' ≡ rs) (em : m ≡ n - 1) (eg : g ≡ next_of rs' at) where
+  pub row_step : Row rs n h → Row rs m g
+  row_step r = rw (em, eg, er, ea) (row_next rs n h p r)
+
+  pub nodes_step : nodes rs n h ≡ record { at = at; rec = rec_at rs at } ∷ nodes rs m g
+  nodes_step = rw (em, eg, er, ea) (nodes_next rs n h p)
+
 -- ---- a walk: i of c records are behind it
 
 pub chain_turn : (rs : List ℕ) (k c i h : ℕ) → i < c → Chain rs k (c - i) h → Chain rs k (c - (i + 1)) (next_of rs h)
 chain_turn rs k c i h l x = let e : c - (i + 1) ≡ c - i - 1 = omega arith in rw e (chain_next rs k (c - i) h (omega arith) x)
-
-pub nodes_turn : (rs : List ℕ) (c i h : ℕ) → i < c → nodes rs (c - i) h ≡ record { at = h; rec = rec_at rs h } ∷ nodes rs (c - (i + 1)) (next_of rs h)
-nodes_turn rs c i h l = let e : c - (i + 1) ≡ c - i - 1 = omega arith in rw e (nodes_next rs (c - i) h (omega arith))
-
--- and at its end
-pub nodes_end : (rs : List ℕ) (c i h : ℕ) → c ≤ i → nodes rs (c - i) h ≡ []
-unfolding nodes
-nodes_end rs c i h l = let e : c - i ≡ 0 = omega arith in rw e

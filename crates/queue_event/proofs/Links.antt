@@ -44,6 +44,10 @@ module _ (rs : List ℕ) (q next m l t : ℕ) (i : In rs q) where
   unfolding rec_at
   filled_node = rw (filled_moment, filled_size, filled_tag)
 
+-- a record is one of the slice too once another is written
+pub filled_in : (rs rs₁ rs' : List ℕ) (q next m l t r : ℕ) → In rs q → rs₁ ≡ filled rs q next m l t → rs' ≡ rs → In rs' r → In rs₁ r
+filled_in rs rs₁ rs' q next m l t r i e er h = rw e (in_len rs _ r (filled_only rs q next m l t i).len (rw er at h))
+
 -- ---- off the chain
 
 -- a record of another mark is not on the chain

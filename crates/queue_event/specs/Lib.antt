@@ -8,4 +8,5 @@ pub mod Order
 pub mod Tail
 pub mod Folds
 pub mod Values
-pub mod Loops
+pub mod Rows
+pub mod Walks

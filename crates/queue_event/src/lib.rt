@@ -2,9 +2,9 @@
 #![tactic(auto)]
 
 pub mod append;
+pub mod chain;
 pub mod insert;
 pub mod pop;
 pub mod read;
 pub mod tag;
-pub mod window;
 pub mod words;

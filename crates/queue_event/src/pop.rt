@@ -8,8 +8,8 @@ use crate::words;
 
 // The record at head leaves its chain and goes in front of the free chain. Answers the record that followed it.
 pub fn pop(records: &mut [u64], head: u64, free: u64) -> u64
-    requires fact_1 { In records.old head }
-    requires fact_2 { (mark_of (tag_of records.old head) ≡ 0 → ⊥) }
+    requires within { In records.old head }
+    requires used { (mark_of (tag_of records.old head) ≡ 0 → ⊥) }
     ensures { Popped records.old records.new head free result }
 {
     let next = words::get(records, head, 0);

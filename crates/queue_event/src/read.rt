@@ -1,6 +1,6 @@
 // A record read as what it holds.
 ghost use Rattle.std.specs.Prelude.{◌≡◌};
-ghost use Rattle.queue_event.specs.Words.{In};
+ghost use Rattle.queue_event.specs.Words.{In, next_of, moment_of, length_of, tag_of};
 ghost use Rattle.queue_event.specs.Chain.{rec_at};
 ghost use Rattle.queue_event.specs.Values.{read_event, read_aggregate};
 
@@ -8,44 +8,67 @@ use crate::{tag, words};
 use event::{AggregateDelay, Kind, SimEvent};
 use moment::{Length, Moment};
 
-// The event of a side in the words of its record.
-fn event_of(moment: u64, delay: u64, tag: u64, client: bool) -> SimEvent
-    ensures { result ≡ read_event client (record { moment = moment; size = delay; tag = tag }) }
-{
-    SimEvent {
-        kind: Kind(tag::kind(tag)),
-        moment: Moment(moment),
-        delay: Length(delay),
-        client,
-        padding: tag::padding(tag),
-        bypass: tag::bypass(tag),
-        replace: tag::replace(tag),
-        machine: tag::machine(tag),
+// One of the records in these words, by its number.
+#[derive(Clone, Copy)]
+pub struct Record<'a> {
+    pub records: &'a [u64],
+    pub at: u64,
+    pub ghost within: { In records.now at },
+}
+
+impl Record<'_> {
+    // The number of the record that it is linked to, 0 for none.
+    pub fn next(&self) -> u64
+        ensures { result ≡ next_of self.now.records.now self.now.at }
+    {
+        words::get(self.records, self.at, 0)
     }
-}
 
-// The event in the record of this number, which stands in a chain of the side.
-pub fn event_at(records: &[u64], at: u64, client: bool) -> SimEvent
-    requires { In records.now at }
-    ensures { result ≡ read_event client (rec_at records.now at) }
-{
-    let moment = words::get(records, at, 1);
-    let delay = words::get(records, at, 2);
-    let tag = words::get(records, at, 3);
-    event_of(moment, delay, tag, client)
-}
+    pub fn moment(&self) -> Moment
+        ensures { result.0 ≡ moment_of self.now.records.now self.now.at }
+    {
+        Moment(words::get(self.records, self.at, 1))
+    }
 
-// The pending aggregate in the record of this number.
-pub fn aggregate_at(records: &[u64], at: u64) -> AggregateDelay
-    requires { In records.now at }
-    ensures { result ≡ read_aggregate (rec_at records.now at) }
-{
-    let moment = words::get(records, at, 1);
-    let length = words::get(records, at, 2);
-    let tag = words::get(records, at, 3);
-    AggregateDelay {
-        moment: Moment(moment),
-        length: Length(length),
-        client: tag::client(tag),
+    pub fn length(&self) -> Length
+        ensures { result.0 ≡ length_of self.now.records.now self.now.at }
+    {
+        Length(words::get(self.records, self.at, 2))
+    }
+
+    pub fn tag(&self) -> u64
+        ensures { result ≡ tag_of self.now.records.now self.now.at }
+    {
+        words::get(self.records, self.at, 3)
+    }
+
+    // The event that it holds, in a chain of the side.
+    pub fn event(&self, client: bool) -> SimEvent
+        ensures { result ≡ read_event client (rec_at self.now.records.now self.now.at) }
+    {
+        let moment = self.moment();
+        let delay = self.length();
+        let tag = self.tag();
+        SimEvent {
+            kind: Kind(tag::kind(tag)),
+            moment,
+            delay,
+            client,
+            padding: tag::padding(tag),
+            bypass: tag::bypass(tag),
+            replace: tag::replace(tag),
+            machine: tag::machine(tag),
+        }
+    }
+
+    // The pending aggregate that it holds.
+    pub fn aggregate(&self) -> AggregateDelay
+        ensures { result ≡ read_aggregate (rec_at self.now.records.now self.now.at) }
+    {
+        AggregateDelay {
+            moment: self.moment(),
+            length: self.length(),
+            client: tag::client(self.tag()),
+        }
     }
 }

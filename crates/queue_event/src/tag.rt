@@ -66,9 +66,9 @@ pub fn machine(tag: u64) -> u64
 
 // The tag of an event in the chain of this number.
 pub fn event_tag(chain: u64, event: SimEvent) -> u64
-    requires fact_1 { chain < 16 }
-    requires fact_2 { event.kind.0 < 16 }
-    requires fact_3 { event.machine < 16 }
+    requires chain { chain < 16 }
+    requires kind { event.kind.0 < 16 }
+    requires machine { event.machine < 16 }
     ensures { result ≡ event_tag chain event.kind.0 event.padding event.bypass event.replace event.machine }
 {
     let flags = 256 * u64::from(event.padding)

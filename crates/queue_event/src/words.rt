@@ -4,8 +4,8 @@ ghost use Rattle.queue_event.specs.Words.{word, put, filled, In};
 
 // Word i of record r.
 pub fn get(records: &[u64], r: u64, i: usize) -> u64
-    requires fact_1 { In records.now r }
-    requires fact_2 { i < 4 }
+    requires within { In records.now r }
+    requires field { i < 4 }
     ensures { result ≡ word records.now r i }
 {
     let at = (4 * r - 4) as usize + i;
@@ -14,8 +14,8 @@ pub fn get(records: &[u64], r: u64, i: usize) -> u64
 
 // Stores v as word i of record r.
 pub fn store(records: &mut [u64], r: u64, i: usize, v: u64)
-    requires fact_1 { In records.old r }
-    requires fact_2 { i < 4 }
+    requires within { In records.old r }
+    requires field { i < 4 }
     ensures { records.new ≡ put records.old r i v }
 {
     let at = (4 * r - 4) as usize + i;

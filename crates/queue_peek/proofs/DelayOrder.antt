@@ -4,8 +4,8 @@ use mathlib.Core.Bool.{Bool, true, false}
 use Rattle.std.specs.Ordering.{is_le, nat_cmp}
 use Rattle.moment.specs.declared.Length.{Length}
 use Rattle.moment.proofs.Order.{le_is}
-use Rattle.std.specs.Prelude.{if◌then◌else◌, Option, Some, None}
-use Rattle.rules.specs.Basics.{after, absent, ◌≤ᵈ◌, earlier, Delay as RulesDelay}
+use Rattle.std.specs.Prelude.{Option, Some, None}
+use Rattle.rules.specs.Basics.{after, absent, ◌≤ᵈ◌, Delay as RulesDelay}
 use Rattle.queue_peek.specs.Decoded.{delay_of}
 
 before_absent : (x : RulesDelay) → true ≡ (x ≤ᵈ absent)
@@ -24,9 +24,3 @@ module _ (a b : Option Length) where
   pub not_later_both : (x y : Length) (r : Bool) → b ≡ Some y → a ≡ Some x → r ≡ is_le (nat_cmp x.0 y.0) → r ≡ (delay_of a ≤ᵈ delay_of b)
   unfolding delay_of
   not_later_both x y r eb ea er = er ∙ le_is x.0 y.0 ∙ ap₂ (λ (p q : Option Length). delay_of p ≤ᵈ delay_of q) (sym ea) (sym eb)
-
-  pub earlier_first : (r : Bool) → r ≡ (delay_of a ≤ᵈ delay_of b) → r ≡ true → delay_of a ≡ earlier (delay_of a) (delay_of b)
-  earlier_first r e t = ap (λ x. if x then delay_of a else delay_of b) (sym t ∙ e)
-
-  pub earlier_second : (r : Bool) → r ≡ (delay_of a ≤ᵈ delay_of b) → r ≡ false → delay_of b ≡ earlier (delay_of a) (delay_of b)
-  earlier_second r e t = ap (λ x. if x then delay_of a else delay_of b) (sym t ∙ e)

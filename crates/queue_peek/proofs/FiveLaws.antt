@@ -10,14 +10,13 @@ use Rattle.rules.specs.Basics.{after, delay_to, earlier}
 use Rattle.rules.specs.State.{Aggregate, Held}
 use Rattle.rules.specs.ChoiceHeads.{head_delay, peek_queue}
 use Rattle.rules.specs.ChoiceDelays.{action_delay, timer_delay, block_delay, aggregate_delay, Block, next_block, offered, delays, Delays as RulesDelays}
-use Rattle.queue_event.specs.Words.{word, In}
+use Rattle.queue_event.specs.Words.{word}
 use Rattle.queue_event.specs.Chain.{rec_at, nodes}
-use Rattle.layout.specs.Records.{head_of, count_of}
-use Rattle.layout.specs.Accepted.{Good}
+use Rattle.layout.specs.Records.{head_of, count_of, chain_at}
 use Rattle.layout.specs.Layout.{aggregate_from, held_aggregate, state_from}
 use Rattle.queue.specs.declared.peek.Head.{Head}
 use Rattle.queue.specs.Heads.{found_of, PeekedBoth}
-use Rattle.queue_event.proofs.Laws.{chain_in, nodes_next}
+use Rattle.queue_event.proofs.Laws.{nodes_next}
 use Rattle.layout.proofs.Banks.{chains_at}
 use Rattle.queue_peek.specs.declared.five.Delays.{Delays}
 use Rattle.queue_peek.specs.declared.blocks.BlockEnd.{BlockEnd}
@@ -61,25 +60,24 @@ module _ (h : List ℕ) (d : Delays) (t : ℕ) where
 
   -- ---- n
 
-  module _ (rs : List ℕ) (m : ℕ) (em : m ≡ count_of h 11) where
-    n_is : delay_to t (RulesOption.map (λ (a : Held Aggregate). a.value.moment) (head? (map held_aggregate (nodes rs m (head_of h 11))))) ≡ aggregate_delay (state_from h rs) t
+  module _ (rs : List ℕ) where
+    n_is : delay_to t (RulesOption.map (λ (a : Held Aggregate). a.value.moment) (head? (map held_aggregate (chain_at h rs 11)))) ≡ aggregate_delay (state_from h rs) t
     unfolding state_from
-    n_is =
-        ap (λ l. delay_to t (RulesOption.map (λ (a : Held Aggregate). a.value.moment) (head? (map held_aggregate l))))
-        (ap (λ i. nodes rs i (head_of h 11)) em ∙ sym (chains_at h rs 11 (omega arith)))
+    n_is = ap (λ l. delay_to t (RulesOption.map (λ (a : Held Aggregate). a.value.moment) (head? (map held_aggregate l)))) (sym (chains_at h rs 11 (omega arith)))
 
-    pub n_absent : m ≡ 0 → delays_of (record { s = d.s; i = d.i; b = d.b; n = None; q = d.q; found = d.found }) ≡ with_n (delays_of d) (aggregate_delay (state_from h rs) t)
+    pub n_absent : count_of h 11 ≡ 0 → delays_of (record { s = d.s; i = d.i; b = d.b; n = None; q = d.q; found = d.found }) ≡ with_n (delays_of d) (aggregate_delay (state_from h rs) t)
     unfolding delays_of delay_of nodes
     n_absent z = ap (with_n (delays_of d)) (sym (ap (λ i. delay_to t (RulesOption.map (λ (a : Held Aggregate). a.value.moment) (head? (map held_aggregate (nodes rs i (head_of h 11)))))) z) ∙ n_is)
 
+    -- the first record, p of the words rs'
     pub n_filled :
-        (m ≡ 0 → ⊥) → (p w : ℕ) (l : Length) → p ≡ head_of h 11 → w ≡ word rs p 1 → l.0 ≡ w - t
+        (rs' : List ℕ) (p w : ℕ) (l : Length) → 0 < count_of h 11 → p ≡ head_of h 11 → rs' ≡ rs → w ≡ word rs' p 1 → l.0 ≡ w - t
         → delays_of (record { s = d.s; i = d.i; b = d.b; n = Some l; q = d.q; found = d.found }) ≡ with_n (delays_of d) (aggregate_delay (state_from h rs) t)
     unfolding delays_of delay_of rec_at aggregate_from
-    n_filled ne p w l ep ew el =
+    n_filled rs' p w l some ep er ew el =
         ap (with_n (delays_of d))
-        (ap after (el ∙ ap (λ i. i - t) (ew ∙ ap (λ i. word rs i 1) ep))
-        ∙ sym (ap (λ l. delay_to t (RulesOption.map (λ (a : Held Aggregate). a.value.moment) (head? (map held_aggregate l)))) (nodes_next rs m (head_of h 11) (omega (arith, ne))))
+        (ap after (el ∙ (λ e. (ew ∙ (λ k. word (er k) (ep k) 1)) e - t))
+        ∙ sym (ap (λ l. delay_to t (RulesOption.map (λ (a : Held Aggregate). a.value.moment) (head? (map held_aggregate l)))) (nodes_next rs (count_of h 11) (head_of h 11) some))
         ∙ n_is)
 
   -- ---- q, and the head
@@ -92,10 +90,6 @@ module _ (h : List ℕ) (d : Delays) (t : ℕ) where
   q_filled rs least f z el pf ez =
       let p = subst (λ x. PeekedBoth h rs f (peek_queue (state_from h rs) t x)) el pf in
       (ap (with_q (delays_of d)) (ez ∙ ap (head_delay t) p.is), p)
-
--- the first aggregate's record
-pub aggregate_within : (h rs : List ℕ) (m p : ℕ) → Good h rs → m ≡ count_of h 11 → (m ≡ 0 → ⊥) → p ≡ head_of h 11 → In rs p
-aggregate_within h rs m p g em ne ep = rw ep (chain_in rs 11 (count_of h 11) (head_of h 11) (subst (λ i. 0 < i) em (omega (arith, ne))) (g.chains 11 (omega arith)).links)
 
 -- ---- all five
 

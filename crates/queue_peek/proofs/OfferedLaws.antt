@@ -36,7 +36,7 @@ module _ (h rs : List ℕ) (b : Bool) (g : Good h rs) (t : Moment) (l : t.0 ≤ 
       go (Some m) = refl
 
   small : e.0 ≤ moment_limit
-  small = subst (λ i. i ≤ moment_limit) (sym end_is) (end_small h rs b t.0 g l)
+  small = subst (λ i. i ≤ moment_limit) (sym end_is) (end_small h rs b t.0 g.limits l)
 
   -- what is moved stays known
   pub lifted_known : (f r : Option Head) (x : RulesOption RulesHead) → Peeked h rs b f x → Lifted e.0 f r → Known r

@@ -1,44 +1,25 @@
 -- What the queues offer: a head's delay, a packet that is held back, and the heads behind the blocks. Assumes nothing.
-use Prim.Native.Nat.{ℕ, ◌+◌, ◌-◌, ◌≤◌, max}
+use Prim.Native.Nat.{ℕ, ◌+◌, ◌≤◌, max}
 use mathlib.Core.Path.{◌≡◌, refl, sym, ap, ◌∙◌}
 use mathlib.Core.Bool.{Bool, true, false, not, ◌&&◌, ◌||◌}
-use mathlib.Core.List.{List}
 use mathlib.Core.Option.{some, map}
 use native.Mathlib.Omega.{arith}
 use lib.Dec.{eqb, ltb, leb}
-use borrow.Author.Tests.{ne_eqb}
 use Rattle.std.specs.Ordering.{is_lt, is_le, nat_cmp, ord_max}
 use Rattle.moment.specs.declared.Moment.{Moment}
 use Rattle.moment.proofs.Order.{lt_is, le_is, max_is}
 use Rattle.std.proofs.lemmas.Grind.{common_steps}
-use Rattle.moment.specs.declared.Length.{Length}
 use Rattle.std.specs.Prelude.{Option, Some, None}
-use Rattle.rules.specs.Basics.{after, is_some, is_tunnel_sent}
 use Rattle.rules.specs.Limits.{moment_limit}
-use Rattle.rules.specs.ChoiceHeads.{head_delay, held_back, is_base, waiting_first, not_before}
-use Rattle.event.specs.declared.SimEvent.{SimEvent}
-use Rattle.event.specs.Values.{kind_at, event_value}
+use Rattle.rules.specs.ChoiceHeads.{is_base, waiting_first, not_before}
+use Rattle.event.specs.Values.{event_value}
 use Rattle.queue.specs.declared.peek.Head.{Head}
 use Rattle.queue.specs.declared.header.Queue.{Queue}
 use Rattle.queue.specs.declared.header.Queue.TheVariants.{Base, Blocking, Bypassable, Internal}
 use Rattle.queue.specs.Queues.{queue_of}
-use Rattle.queue.specs.Views.{moment_no}
-use Rattle.queue.specs.Heads.{head_from, found_of, side_held, HeadOk, Stands}
-use Rattle.layout.proofs.Order.{sent_kind}
+use Rattle.queue.specs.Heads.{head_from, found_of, HeadOk, Stands}
 use Rattle.queue.proofs.HeadsOrder.{stands_at}
-use Rattle.queue_peek.specs.Decoded.{delay_of}
 use Rattle.queue_peek.specs.Promises.{Lifted}
-
--- ---- a head's delay
-
-module _ (f : Option Head) (t : ℕ) where
-  pub delay_none : f ≡ None → delay_of None ≡ head_delay t (found_of f)
-  unfolding delay_of found_of
-  delay_none e = ap (λ (x : Option Head). head_delay t (found_of x)) (sym e)
-
-  pub delay_head : (h : Head) (l : Length) → f ≡ Some h → l.0 ≡ h.moment.0 - t → delay_of (Some l) ≡ head_delay t (found_of f)
-  unfolding delay_of found_of head_from
-  delay_head h l e el = ap after el ∙ ap (λ (x : Option Head). head_delay t (found_of x)) (sym e)
 
 -- ---- waiting or passing
 

@@ -1,8 +1,8 @@
 -- The code's delays and block ends as the rules' own. Assumes nothing.
-use Rattle.std.specs.Prelude.{Option, Some, None}
-use Rattle.std.proofs.Math.Option.{Option as RulesOption, none, some}
+use Rattle.std.specs.Prelude.{ℕ, Option, Some, None}
+use Rattle.std.proofs.Math.Option.{Option as RulesOption, none, some, map}
 use Rattle.moment.specs.declared.Length.{Length}
-use Rattle.rules.specs.Basics.{after, absent, earlier, Delay as RulesDelay}
+use Rattle.rules.specs.Basics.{Side, after, absent, earlier, Delay as RulesDelay}
 use Rattle.rules.specs.ChoiceDelays.{Block, Delays as RulesDelays}
 use Rattle.event.specs.HandedIn.{side_of}
 use Rattle.queue_peek.specs.declared.five.Delays.{Delays}
@@ -24,6 +24,10 @@ block_from k = record { side = side_of k.client; end = k.end.0 }
 unfoldable pub blocked_of : Option BlockEnd → RulesOption Block
 blocked_of None = none
 blocked_of (Some k) = some (block_from k)
+
+-- the block of a side that ends at this moment, if it ends
+abbrev pub block_of : Side → RulesOption ℕ → RulesOption Block
+block_of z end = map (λ (t : ℕ). record { side = z; end = t }) end
 
 -- ---- the five delays, filled one by one
 

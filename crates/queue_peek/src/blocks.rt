@@ -1,8 +1,10 @@
 // The blocks of both sides: the next one to end.
-ghost use Rattle.std.specs.Prelude.{◌≡◌};
+ghost use Rattle.std.specs.Prelude.{◌≡◌, ℕ, List};
 ghost use Rattle.rules.specs.ChoiceDelays.{next_block};
-ghost use Rattle.queue.specs.Views.{state_in};
-ghost use Rattle.queue_peek.specs.Decoded.{blocked_of};
+ghost use Rattle.event.specs.HandedIn.{side_of};
+ghost use Rattle.layout.specs.Layout.{state_from};
+ghost use Rattle.queue.specs.Heads.{side_held};
+ghost use Rattle.queue_peek.specs.Decoded.{blocked_of, block_of};
 
 use moment::Moment;
 use queue::Words;
@@ -14,32 +16,22 @@ pub struct BlockEnd {
     pub end: Moment,
 }
 
+// The end of a side's block, if it has one.
+#[tactic(auto, using(crate::proofs::BlockLaws::side_none, crate::proofs::BlockLaws::side_some))]
+fn of_side(words: &Words, client: bool) -> Option<BlockEnd>
+    ensures { (rs : List ℕ) → blocked_of result ≡ block_of (side_of client) (side_held words.now.header.now rs client).block_end }
+{
+    words.block_end(client).map(|end| BlockEnd { client, end })
+}
+
 // The earlier block end; equal ends mean the server.
 pub fn next_block(words: &Words) -> Option<BlockEnd>
-    ensures { blocked_of result ≡ next_block (state_in words.now) }
+    ensures { (rs : List ℕ) → blocked_of result ≡ next_block (state_from words.now.header.now rs) }
 {
-    let client = words.block_end(true);
-    let server = words.block_end(false);
+    let client = of_side(words, true);
+    let server = of_side(words, false);
     match (client, server) {
-        (None, None) => None,
-        (Some(c), None) => Some(BlockEnd {
-            client: true,
-            end: c,
-        }),
-        (None, Some(s)) => Some(BlockEnd {
-            client: false,
-            end: s,
-        }),
-        (Some(c), Some(s)) => if c < s {
-            Some(BlockEnd {
-                client: true,
-                end: c,
-            })
-        } else {
-            Some(BlockEnd {
-                client: false,
-                end: s,
-            })
-        },
+        (Some(c), Some(s)) => if c.end < s.end { client } else { server },
+        _ => client.or(server),
     }
 }

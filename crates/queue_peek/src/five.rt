@@ -1,19 +1,17 @@
 // The five delays of a round as one value, filled one by one, and the head that was found for the fifth.
-ghost use Rattle.std.specs.Prelude.{◌≡◌, ◌≤◌, None};
-ghost use Rattle.rules.specs.Limits.{moment_limit};
+ghost use Rattle.std.specs.Prelude.{◌≡◌, ℕ, List, None};
 ghost use Rattle.rules.specs.ChoiceHeads.{head_delay, peek_queue};
 ghost use Rattle.rules.specs.ChoiceDelays.{action_delay, timer_delay, block_delay, aggregate_delay};
-ghost use Rattle.layout.specs.Header.{Limited, SlotsOk};
+ghost use Rattle.layout.specs.Layout.{state_from};
 ghost use Rattle.queue.specs.Heads.{PeekedBothIn};
 ghost use Rattle.queue.specs.Views.{state_in};
 ghost use Rattle.queue_peek.specs.Decoded.{delay_of, delays_of, no_delays, with_s, with_i, with_b, with_n, with_q, least_of};
 
-use crate::slots::{Actions, Timers};
+use crate::slots::{Actions, Slotted, Timers};
 use crate::{blocks, order, queues, slots};
-use moment::{Length, Moment};
+use moment::{Length, Moment, Time};
 use queue::peek::Head;
 use queue::{View, Words, header};
-use queue_event::words;
 
 // Of an action, of a timer, of a block's end, of the first aggregate, and of the queues' head, which stands beside its delay.
 #[derive(Clone, Copy)]
@@ -42,52 +40,42 @@ impl Delays {
     }
 
     // s: the least delay of an action at or after the time.
-    pub fn peek_scheduled_action(mut self, words: &Words, time: Moment) -> Self
-        requires limits { Limited words.now.header.now }
-        requires slots { SlotsOk words.now.header.now }
-        ensures { (delays_of result ≡ with_s (delays_of self) (action_delay (state_in words.now) time.0)) × (result.found ≡ self.found) }
+    pub fn peek_scheduled_action(mut self, slotted: &Slotted, time: Moment) -> Self
+        ensures { ((rs : List ℕ) → delays_of result ≡ with_s (delays_of self) (action_delay (state_from slotted.now.words.header.now rs) time.0)) × (result.found ≡ self.found) }
     {
-        self.s = slots::least_of_both::<Actions>(words, time);
+        self.s = slots::least_of_both::<Actions>(slotted, time);
         self
     }
 
     // i: the least delay of a timer at or after the time.
-    pub fn peek_scheduled_internal_timer(mut self, words: &Words, time: Moment) -> Self
-        requires limits { Limited words.now.header.now }
-        requires slots { SlotsOk words.now.header.now }
-        ensures { (delays_of result ≡ with_i (delays_of self) (timer_delay (state_in words.now) time.0)) × (result.found ≡ self.found) }
+    pub fn peek_scheduled_internal_timer(mut self, slotted: &Slotted, time: Moment) -> Self
+        ensures { ((rs : List ℕ) → delays_of result ≡ with_i (delays_of self) (timer_delay (state_from slotted.now.words.header.now rs) time.0)) × (result.found ≡ self.found) }
     {
-        self.i = slots::least_of_both::<Timers>(words, time);
+        self.i = slots::least_of_both::<Timers>(slotted, time);
         self
     }
 
     // b: the earlier block end since the time.
+    #[tactic(auto, using(crate::proofs::FiveLaws::b_absent, crate::proofs::FiveLaws::b_filled))]
     pub fn peek_blocked_exp(mut self, words: &Words, time: Moment) -> Self
-        ensures { (delays_of result ≡ with_b (delays_of self) (block_delay (state_in words.now) time.0)) × (result.found ≡ self.found) }
+        ensures { ((rs : List ℕ) → delays_of result ≡ with_b (delays_of self) (block_delay (state_from words.now.header.now rs) time.0)) × (result.found ≡ self.found) }
     {
-        let Some(k) = blocks::next_block(words) else {
-            self.b = None;
-            return self;
-        };
-        self.b = Some(k.end.since(time));
+        self.b = blocks::next_block(words).map(|k| k.end.since(time));
         self
     }
 
     // n: the first aggregate since the time.
+    #[tactic(auto, using(crate::proofs::FiveLaws::n_absent, crate::proofs::FiveLaws::n_filled))]
     pub fn peek_aggregate_delay(mut self, view: &View, time: Moment) -> Self
         ensures { (delays_of result ≡ with_n (delays_of self) (aggregate_delay (state_in view.now.words) time.0)) × (result.found ≡ self.found) }
     {
-        if view.words.count(header::AGGREGATES) == 0 {
-            self.n = None;
-            return self;
-        }
-        let first = view.words.first(header::AGGREGATES);
-        let moment = Moment(words::get(view.words.records, first, 1));
-        self.n = Some(moment.since(time));
+        self.n = view
+            .head(header::AGGREGATES)
+            .map(|r| r.moment().since(time));
         self
     }
 
-    // The least of the four.
+    // The least of the four. None is later than any delay here, and earlier in the order of Option.
     pub fn least(self) -> Option<Length>
         ensures { delay_of result ≡ least_of (delays_of self) }
     {
@@ -98,12 +86,11 @@ impl Delays {
     }
 
     // q: the head of the queues, which is kept for the candidate.
-    pub fn peek_queue(mut self, view: &View, time: Moment) -> Self
-        requires { time.0 ≤ moment_limit }
-        ensures { (delays_of result ≡ with_q (delays_of self) (head_delay time.0 (peek_queue (state_in view.now.words) time.0 (least_of (delays_of self))))) × PeekedBothIn view.now.words result.found (peek_queue (state_in view.now.words) time.0 (least_of (delays_of self))) }
+    pub fn peek_queue(mut self, view: &View, time: Time) -> Self
+        ensures { (delays_of result ≡ with_q (delays_of self) (head_delay time.at.0 (peek_queue (state_in view.now.words) time.at.0 (least_of (delays_of self))))) × PeekedBothIn view.now.words result.found (peek_queue (state_in view.now.words) time.at.0 (least_of (delays_of self))) }
     {
         let found = queues::offered(view, time, self.least());
-        self.q = queues::head_delay(found, time);
+        self.q = queues::head_delay(found, time.at);
         self.found = found;
         self
     }

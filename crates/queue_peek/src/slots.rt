@@ -5,15 +5,32 @@ ghost use Rattle.rules.specs.Basics.{earlier};
 ghost use Rattle.rules.specs.State.{SideState};
 ghost use Rattle.rules.specs.ChoiceDelays.{slot_delay, least_delay, action_moments};
 ghost use Rattle.layout.specs.Header.{Limited, SlotsOk};
-ghost use Rattle.queue.specs.declared.view.Words.{Words};
-ghost use Rattle.queue.specs.Views.{moment_no, side_in};
+ghost use Rattle.queue.specs.Heads.{side_held};
+ghost use Rattle.queue.specs.Views.{moment_no};
 ghost use Rattle.queue.specs.Slots.{held_at};
 ghost use Rattle.queue.proofs.SlotLaws.{timers_sixteen, timers_beyond, actions_sixteen, actions_beyond};
 ghost use Rattle.queue_peek.specs.Decoded.{delay_of};
 
 use crate::order;
 use moment::{Length, Moment};
-use queue::{Words, header};
+use queue::{View, Words, header};
+
+// The words of a state whose header is within its limits and whose slots are in order.
+#[derive(Clone, Copy)]
+pub struct Slotted<'a> {
+    pub words: Words<'a>,
+    pub ghost limits: { Limited words.header.now },
+    pub ghost slots: { SlotsOk words.header.now },
+}
+
+impl<'a> Slotted<'a> {
+    // Of an accepted state.
+    pub fn of(view: &View<'a>) -> Slotted<'a>
+        ensures { result.words ≡ view.now.words }
+    {
+        Slotted { words: view.words }
+    }
+}
 
 // The slots of one kind.
 pub trait Slots {
@@ -23,12 +40,12 @@ pub trait Slots {
     // The moment that a machine's slot holds.
     fn moment(words: &Words, client: bool, machine: u64) -> Option<Moment>
         requires { machine < 16 }
-        ensures { moment_no result ≡ held_at (moments (side_in words.now client)) machine };
+        ensures { (rs : List ℕ) → moment_no result ≡ held_at (moments (side_held words.now.header.now rs client)) machine };
 
     // A side has sixteen, and those above its machines hold nothing where the slots are in order.
-    ghost sixteen: { (v : Words) (client : Bool) → length (moments (side_in v client)) ≡ 16 };
+    ghost sixteen: { (hs rs : List ℕ) (client : Bool) → length (moments (side_held hs rs client)) ≡ 16 };
 
-    ghost beyond: { (v : Words) (client : Bool) (m : ℕ) → SlotsOk v.header.now → (side_in v client).fixed.machines ≤ m → held_at (moments (side_in v client)) m ≡ none };
+    ghost beyond: { (hs rs : List ℕ) (client : Bool) (m : ℕ) → SlotsOk hs → (side_held hs rs client).fixed.machines ≤ m → held_at (moments (side_held hs rs client)) m ≡ none };
 }
 
 pub struct Timers;
@@ -68,34 +85,28 @@ impl Slots for Actions {
 fn slot_delay(moment: Option<Moment>, time: Moment) -> Option<Length>
     ensures { delay_of result ≡ slot_delay time.0 (moment_no moment) }
 {
-    let Some(m) = moment else {
-        return None;
-    };
+    let m = moment?;
     if m < time { None } else { Some(m.since(time)) }
 }
 
 // The least delay of a side's slots: of its machines', since no other slot holds a moment.
-fn least_delay<S: Slots>(words: &Words, client: bool, time: Moment) -> Option<Length>
-    requires limits { Limited words.now.header.now }
-    requires slots { SlotsOk words.now.header.now }
-    ensures { delay_of result ≡ least_delay time.0 (S.moments (side_in words.now client)) }
+fn least_delay<S: Slots>(slotted: &Slotted, client: bool, time: Moment) -> Option<Length>
+    ensures { (rs : List ℕ) → delay_of result ≡ least_delay time.0 (S.moments (side_held slotted.now.words.header.now rs client)) }
 {
-    let machines = words.of_side(header::MACHINES, client);
+    let machines = slotted.words.of_side(header::MACHINES, client);
     let mut best = None;
     for m in (0..machines).rev() {
-        let delay = slot_delay(S::moment(words, client, m), time);
+        let delay = slot_delay(S::moment(&slotted.words, client, m), time);
         best = order::earlier(delay, best);
     }
     best
 }
 
 // The least delay of the slots of both sides.
-pub fn least_of_both<S: Slots>(words: &Words, time: Moment) -> Option<Length>
-    requires limits { Limited words.now.header.now }
-    requires slots { SlotsOk words.now.header.now }
-    ensures { delay_of result ≡ earlier (least_delay time.0 (S.moments (side_in words.now true))) (least_delay time.0 (S.moments (side_in words.now false))) }
+pub fn least_of_both<S: Slots>(slotted: &Slotted, time: Moment) -> Option<Length>
+    ensures { (rs : List ℕ) → delay_of result ≡ earlier (least_delay time.0 (S.moments (side_held slotted.now.words.header.now rs true))) (least_delay time.0 (S.moments (side_held slotted.now.words.header.now rs false))) }
 {
-    let client = least_delay::<S>(words, true, time);
-    let server = least_delay::<S>(words, false, time);
+    let client = least_delay::<S>(slotted, true, time);
+    let server = least_delay::<S>(slotted, false, time);
     order::earlier(client, server)
 }

@@ -35,8 +35,8 @@ use Rattle.candidate.specs.declared.Due.{Due}
 use Rattle.candidate.specs.declared.Planned.{Planned}
 use Rattle.layout.proofs.Shapes.{accepted_shaped}
 use Rattle.layout.proofs.Theorems.{holds_accepted}
-use Rattle.round.specs.Changes.{Becomes}
-use Rattle.round.specs.Cases.{AggregateDue, BlockDue, EventDue, EventTaken, TimerDue, ActionDue, Passed}
+use Rattle.round.specs.Changes.{Becomes, HasFree}
+use Rattle.round.specs.Cases.{AggregateDue, BlockDue, EventDue, EventTaken, ActionDue, Passed}
 use Rattle.round.specs.Rounds.{MayRound, MayAct}
 use Rattle.round.proofs.Lifted.{LiftedAs, candidate_lifted}
 
@@ -95,7 +95,7 @@ module _ (w : List ℕ) (now k : ℕ) (c : Candidate) (may : MayAct w now k c) w
     unfolding candidate_of Reckoned
     block_due =
         let m : MayAct w now k (Block b by) = as_told w now k c (Block b by) e may in
-        record { accepted = may.round.accepted; time = may.round.time; set = there w now k (Block b by) m; sum = (fits_all _ m.sums).0; reckoned = m.reckoned }
+        record { accepted = may.round.accepted; set = there w now k (Block b by) m; sum = (fits_all _ m.sums).0; reckoned = m.reckoned }
 
     pub block_acted : (left : List ℕ) (r : Option (Result Chosen Refusal)) → Passed w left k (end_block (state_of w) now (block_from b)) r → Passed w left k (act (state_of w) now (candidate_of (take 256 w) c)) r
     unfolding candidate_of
@@ -117,11 +117,11 @@ module _ (w : List ℕ) (now k : ℕ) (c : Candidate) (may : MayAct w now k c) w
   -- ---- 4. a timer
 
   module _ (d : Due) (e : c ≡ Timer d) where
-    pub timer_due : TimerDue w d
+    pub timer_due : HasFree w 1
     unfolding candidate_of Stands
     timer_due =
         let m : MayAct w now k (Timer d) = as_told w now k c (Timer d) e may in
-        record { room = record { shaped = act_shaped w now k (Timer d) m; free = enough_free w now k (Timer d) m }; machine = m.stands }
+        record { shaped = act_shaped w now k (Timer d) m; free = enough_free w now k (Timer d) m }
 
     pub timer_acted : (left : List ℕ) → Becomes w left (push_event (timer_cleared (state_of w) (due_slot d)) (timer_event (due_slot d) d.moment.0)) → Passed w left k (act (state_of w) now (candidate_of (take 256 w) c)) None
     unfolding candidate_of
@@ -134,7 +134,7 @@ module _ (w : List ℕ) (now k : ℕ) (c : Candidate) (may : MayAct w now k c) w
     unfolding candidate_of Stands
     action_due =
         let m : MayAct w now k (AnAction p) = as_told w now k c (AnAction p) e may in
-        record { room = record { shaped = act_shaped w now k (AnAction p) m; free = enough_free w now k (AnAction p) m }; machine = m.stands.0; sums = m.sums }
+        record { room = record { shaped = act_shaped w now k (AnAction p) m; free = enough_free w now k (AnAction p) m }; sums = m.sums }
 
     pub action_acted : (left : List ℕ) → Becomes w left (do_action (state_of w) (planned_slot p) (action_value p.action)) → Passed w left k (act (state_of w) now (candidate_of (take 256 w) c)) None
     unfolding candidate_of

@@ -1,12 +1,14 @@
 -- An action done: its slot cleared first, then its block begun and its event queued, is the rules' `do_action`. Assumes nothing.
-use Prim.Native.Nat.{ℕ, ◌+◌, ◌≤◌, ◌<◌}
+use Prim.Native.Nat.{ℕ, ◌+◌, ◌≤◌}
 use mathlib.Core.Path.{◌≡◌, refl, sym, ap, subst, ◌∙◌}
 use mathlib.Core.Bool.{Bool, true, false}
 use mathlib.Core.List.{List}
 use mathlib.Core.Option.{some}
 use native.Mathlib.Omega.{arith}
 use lib.Dec.{leb}
-use lib.ListN.{length}
+use lib.ListN.{length, take, drop}
+use Rattle.queue.specs.Views.{side_in}
+use Rattle.queue.specs.declared.view.Words.{Words}
 use borrow.Author.Tests.{leb-true, ne_eqb}
 use Rattle.std.specs.Prelude.{if◌then◌else◌}
 use Rattle.rules.specs.Basics.{Side, client, server}
@@ -32,8 +34,12 @@ use Rattle.round.proofs.ActionLaws.{side_with}
 
 -- ---- padding queued, from the words as they are
 
-module _ (w : List ℕ) (p : Planned) (room : HasFree w 1) (d : Length) (ed : d.0 ≡ (side (state_of w) (side_of p.client)).fixed.action_delay) (r : SimEvent)
+module _
+    (w : List ℕ) (p : Planned) (room : HasFree w 1) (v : Words) (eh : v.header.now ≡ take 256 w) (er : v.records.now ≡ drop 256 w) (d : Length) (seen : d.0 ≡ (side_in v p.client).fixed.action_delay) (r : SimEvent)
     (shows : Shows r (padding_of (planned_slot p) (action_value p.action) d.0)) where
+  ed : d.0 ≡ (side (state_of w) (side_of p.client)).fixed.action_delay
+  ed = rw (eh, er) at seen
+
   here : Becomes w w (state_of w)
   here = record { shaped = room.shaped; state = refl; size = refl; spare = λ i s. refl }
 
@@ -107,11 +113,8 @@ block_sums x a e =
     (leb-true (a.moment + a.duration) moment_limit p.0, leb-true (a.moment + (x.fixed.action_delay + x.fixed.reporting_delay)) moment_limit q.0)
 
 module _ (w : List ℕ) (p : Planned) (due : ActionDue w p) (w₁ : List ℕ) (c : Becomes w w₁ (action_cleared (state_of w) (planned_slot p))) where
-  still_free : HasFree w₁ 1
+  pub still_free : HasFree w₁ 1
   still_free = record { shaped = c.shaped; free = omega (arith, due.room.free, ap (λ (s : State). length s.free) c.state, free_cleared (state_of w) (planned_slot p)) }
-
-  pub send_may : HasFree w₁ 1 × (p.machine < 16)
-  send_may = (still_free, due.machine)
 
   pub send_done : p.action.kind.0 ≡ 1 → (w₂ : List ℕ)
       → Becomes w₁ w₂ (push_event (state_of w₁) (padding_of (planned_slot p) (action_value p.action) (side (state_of w₁) (side_of p.client)).fixed.action_delay))
@@ -135,7 +138,7 @@ module _ (w : List ℕ) (p : Planned) (due : ActionDue w p) (w₁ : List ℕ) (c
     same_reporting = ap (λ (s : State). (side s (side_of p.client)).fixed.reporting_delay) c.state ∙ cleared_reporting (state_of w) (planned_slot p)
 
     pub start_may : BeginDue w₁ p
-    start_may = record { room = still_free; machine = due.machine; end = sums.0; begin = omega (arith, sums.1, same_action, same_reporting) }
+    start_may = record { room = still_free; end = sums.0; begin = omega (arith, sums.1, same_action, same_reporting) }
 
     pub start_done : (w₂ : List ℕ) → Becomes w₁ w₂ (start_block (state_of w₁) (planned_slot p) (action_value p.action)) → Becomes w w₂ (do_action (state_of w) (planned_slot p) (action_value p.action))
     start_done w₂ l =

@@ -7,7 +7,7 @@ use mathlib.Core.Option.{Option as MathOption, none, some}
 use Rattle.std.specs.Prelude.{Some, None, Ok, Option}
 use native.Mathlib.Omega.{arith}
 use lib.Dec.{eqb}
-use lib.ListN.{length}
+use lib.ListN.{length, take, drop}
 use borrow.Author.Tests.{eq-eqb, ne_eqb}
 use Rattle.std.specs.Prelude.{if◌then◌else◌}
 use Rattle.rules.specs.Basics.{Side, client, server}
@@ -27,10 +27,12 @@ use Rattle.event.specs.HandedIn.{side_of}
 use Rattle.event.specs.declared.SimEvent.{SimEvent}
 use Rattle.moment.specs.declared.Length.{Length}
 use Rattle.moment.specs.declared.Moment.{Moment}
-use Rattle.layout.specs.Layout.{state_of}
+use Rattle.layout.specs.Layout.{state_from, state_of}
 use Rattle.layout.specs.Shape.{Shaped}
 use Rattle.delay.specs.Tests.{delayed_of}
 use Rattle.queue.specs.Changes.{Leaves}
+use Rattle.queue.specs.Views.{side_in}
+use Rattle.queue.specs.declared.view.Words.{Words}
 use Rattle.queue.specs.Pushes.{MayPush}
 use Rattle.event.specs.Values.{event_value}
 use Rattle.network.specs.Due.{MayAggregate}
@@ -49,14 +51,6 @@ use Rattle.round.proofs.ActionLaws.{side_with}
 
 -- ---- the event
 
-pub end_shows : (c : Bool) (end m : Moment) (d : Length) → m.0 ≡ end.0 + d.0
-    → Shows (record { kind = record { 0 = 7 }; moment = m; delay = d; client = c; padding = false; bypass = false; replace = false; machine = 0 }) (end_of (side_of c) end.0 d.0)
-end_shows c end m d e =
-    record {
-      is = ap (λ (t : ℕ). event_value (record { kind = record { 0 = 7 }; moment = record { 0 = t }; delay = d; client = c; padding = false; bypass = false; replace = false; machine = 0 })) e;
-      canonical = record { kind = omega arith; machine = omega arith; none = λ x. refl };
-    }
-
 -- ---- aggregates added leave both sides
 
 add_one_side : (s : State) (a : Aggregate) (z : Side) → side (add_aggregate s a) z ≡ side s z
@@ -68,10 +62,6 @@ add_side : (s : State) (l : List Aggregate) (z : Side) → side (add_aggregates 
 unfolding add_aggregates
 add_side s [] z = refl
 add_side s (a ∷ l) z = add_side (add_aggregate s a) l z ∙ add_one_side s a z
-
-network_same : (s : State) (z : Side) → (unblocked s z).settings.network_delay ≡ s.settings.network_delay
-network_same s client = refl
-network_same s server = refl
 
 later_end : (now : ℕ) (k : Block) → max k.end now ≡ end_moment now k
 later_end now k = omega arith
@@ -105,9 +95,13 @@ module _ (w : List ℕ) (now : ℕ) (k : BlockEnd) (by : Option Length) (due : B
   end_limit : k.end.0 ≤ moment_limit
   end_limit = subst EndOk due.set (sound_side held.sound (side_of k.client)).end
 
-  module _ (end : Moment) (ee : end.0 ≡ max k.end.0 now) (w₁ : List ℕ) (c : Becomes w w₁ (unblocked (state_of w) (side_of k.client))) (d : Length) (ed : d.0 ≡ (state_of w₁).settings.network_delay) where
-    delay_is : d.0 ≡ (state_of w).settings.network_delay
-    delay_is = ed ∙ ap (λ (s : State). s.settings.network_delay) c.state ∙ network_same (state_of w) (side_of k.client)
+  pub end_within : (end : ℕ) → end ≡ max k.end.0 now → now ≤ moment_limit → end ≤ moment_limit
+  end_within end ee l = omega (arith, end_limit)
+
+  module _ (end : Moment) (ee : end.0 ≡ max k.end.0 now) (w₁ : List ℕ) (c : Becomes w w₁ (unblocked (state_of w) (side_of k.client)))
+      (h rs : List ℕ) (eh : h ≡ take 256 w) (er : rs ≡ drop 256 w) (d : Length) (seen : d.0 ≡ (state_from h rs).settings.network_delay) where
+    ed : d.0 ≡ (state_of w).settings.network_delay
+    ed = rw (eh, er) at seen
 
     end_is : end.0 ≡ end_moment now (block_from k)
     end_is = ee ∙ later_end now (block_from k)
@@ -118,8 +112,6 @@ module _ (w : List ℕ) (now : ℕ) (k : BlockEnd) (by : Option Length) (due : B
         record {
           shaped = c.shaped;
           free = omega (arith, three_free, free_length w₁, ap (λ (s : State). length s.free) c.state, ap length (free_side (state_of w) (side_of k.client) (with_block (side (state_of w) (side_of k.client)) none (side (state_of w) (side_of k.client)).block_bypassable)));
-          delay = omega (arith, delay_is, held.settings.network);
-          time = omega (arith, ee, end_limit, due.time);
         }
 
     pub block_done : (w₂ : List ℕ) → Leaves w₁ w₂ (add_aggregates (state_of w₁) (aggregates_of d.0 (side_of k.client) end.0 (delayed_of by))) → Becomes w w₂ (clear_block (state_of w) now (block_from k))
@@ -129,14 +121,18 @@ module _ (w : List ℕ) (now : ℕ) (k : BlockEnd) (by : Option Length) (due : B
         (subst (Becomes w₁ w₂)
         (λ i.
         add_aggregates (c.state i)
-        (aggregates_of (delay_is i) (side_of k.client) (end_is i) (due.reckoned i))) (leaves_becomes w₁ w₂ _ l))
+        (aggregates_of (ed i) (side_of k.client) (end_is i) (due.reckoned i))) (leaves_becomes w₁ w₂ _ l))
 
   -- ---- `BlockingEnd`
 
-  module _ (w₁ : List ℕ) (c : Becomes w w₁ (clear_block (state_of w) now (block_from k))) (d : Length) (ed : d.0 ≡ (side (state_of w₁) (side_of k.client)).fixed.reporting_delay)
-      (end : Moment) (ee : end.0 ≡ max k.end.0 now) where
+  module _
+      (w₁ : List ℕ) (c : Becomes w w₁ (clear_block (state_of w) now (block_from k))) (v : Words) (eh : v.header.now ≡ take 256 w₁) (er : v.records.now ≡ drop 256 w₁) (d : Length)
+      (seen : d.0 ≡ (side_in v k.client).fixed.reporting_delay) (end : Moment) (ee : end.0 ≡ max k.end.0 now) where
+    told : d.0 ≡ (side (state_of w₁) (side_of k.client)).fixed.reporting_delay
+    told = rw (eh, er) at seen
+
     reporting_is : d.0 ≡ (side (state_of w) (side_of k.client)).fixed.reporting_delay
-    reporting_is = ed ∙ ap (λ (s : State). (side s (side_of k.client)).fixed.reporting_delay) c.state ∙ clear_fixed (state_of w) now (block_from k)
+    reporting_is = told ∙ ap (λ (s : State). (side s (side_of k.client)).fixed.reporting_delay) c.state ∙ clear_fixed (state_of w) now (block_from k)
 
     pub end_fits : end.0 + d.0 < 2 ^ 64
     end_fits = omega (arith, due.sum, reporting_is, ee, later_end now (block_from k))

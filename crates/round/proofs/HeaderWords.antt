@@ -35,20 +35,6 @@ module _ (w : List ℕ) where
   sum_word client = sym (low 10 (omega arith))
   sum_word server = sym (low 11 (omega arith))
 
-  pub action_word_lem : (z : Side) → get_or w (4 + side_no z) 0 ≡ (side (state_of w) z).fixed.action_delay
-  unfolding state_from
-  action_word_lem client = sym (low 4 (omega arith))
-  action_word_lem server = sym (low 5 (omega arith))
-
-  pub reporting_word : (z : Side) → get_or w (6 + side_no z) 0 ≡ (side (state_of w) z).fixed.reporting_delay
-  unfolding state_from
-  reporting_word client = sym (low 6 (omega arith))
-  reporting_word server = sym (low 7 (omega arith))
-
-  pub network_word : get_or w 0 0 ≡ (state_of w).settings.network_delay
-  unfolding state_from
-  network_word = sym (low 0 (omega arith))
-
   pub rounds_word : get_or w 17 0 ≡ total (state_of w)
   unfolding state_from
   rounds_word = sym (low 17 (omega arith))

@@ -1,7 +1,8 @@
 -- A round: which outcome the rules have for it, by the sums; the words that it leaves are accepted. Assumes nothing.
 use Prim.Native.Nat.{ℕ, ◌+◌, ◌≤◌, ◌<◌, ◌^◌}
 use mathlib.Core.Path.{◌≡◌, refl, sym, ap, subst, subst⁻¹, ◌∙◌}
-use mathlib.Core.Bool.{Bool, true, false, ◌&&◌}
+use mathlib.Core.Bool.{Bool, true, false, not, ◌&&◌}
+use borrow.Author.Tests.{not-true, not-false}
 use mathlib.Core.List.{List, [], ◌∷◌, ◌++◌}
 use native.Mathlib.Omega.{arith}
 use lib.Dec.{eqb, leb}
@@ -22,10 +23,11 @@ use Rattle.laws.proofs.Runs.{round_makes}
 use Rattle.laws.specs.Sound.{Sound}
 use Rattle.laws.specs.SoundRound.{round_sound}
 use Rattle.laws.specs.Steady.{act_steady}
-use Rattle.layout.specs.Layout.{state_of}
-use Rattle.layout.specs.Shape.{Shaped}
+use Rattle.layout.specs.Layout.{state_from, state_of}
+use Rattle.queue.specs.declared.view.Words.{Words}
+use Rattle.queue.specs.Views.{state_in}
 use Rattle.candidate.specs.Candidates.{candidate_of, next_of, NextStands, NextReckoned, Stands, Reckoned}
-use Rattle.candidate.specs.Promises.{TakenUp}
+use Rattle.candidate.specs.Promises.{TakenUp, TakenUpIn}
 use Rattle.candidate.specs.declared.Candidate.{Candidate}
 use Rattle.layout.proofs.Shapes.{shaped_accepted}
 use Rattle.layout.proofs.Theorems.{holds_accepted}
@@ -130,13 +132,17 @@ module _ (w : List ℕ) (now k : ℕ) (may : MayRound w now k) where
       let q : Passed w left k (round (state_of w) now) r = subst⁻¹ (λ (x : RoundOutcome). Passed w left k x r) e p in
       record { came = q; accepted = shaped_accepted left q.words.shaped (subst⁻¹ HeldAccepted q.words.state (round_accepted (state_of w) now (holds_accepted w may.accepted) may.time)) }
 
-  module _ (b : Bool) (eb : b ≡ fits (always_sums (state_of w))) where
-    pub always_stops : b ≡ false → (left : List ℕ) (r : Option (Result Chosen Refusal)) → Marked w left k r → Rounded w left now k r
-    always_stops f left r m = rounded left r _ (always_pass (state_of w) now (sym eb ∙ f)) m
+  -- v holds the words in view
+  module _ (v : Words) (eh : v.header.now ≡ take 256 w) (er : v.records.now ≡ drop 256 w) (b : Bool) (seen : b ≡ fits (always_sums (state_in v))) where
+    eb : b ≡ fits (always_sums (state_of w))
+    eb = rw (eh, er) at seen
 
-    module _ (t : b ≡ true) where
+    pub always_stops : not b ≡ true → (left : List ℕ) (r : Option (Result Chosen Refusal)) → Marked w left k r → Rounded w left now k r
+    always_stops f left r m = rounded left r _ (always_pass (state_of w) now (sym eb ∙ not-true b f)) m
+
+    module _ (t : not b ≡ false) where
       always : fits (always_sums (state_of w)) ≡ true
-      always = sym eb ∙ t
+      always = sym eb ∙ not-false b t
 
       total_small : total (state_of w) + 1 ≤ moment_limit
       unfolding always_sums
@@ -145,7 +151,10 @@ module _ (w : List ℕ) (now k : ℕ) (may : MayRound w now k) where
       pub count_fits : total (state_of w) + 1 < 2 ^ 64
       count_fits = omega (arith, total_small)
 
-      module _ (n : Option Candidate) (took : TakenUp (take 256 w) (drop 256 w) now n (candidate (state_of w) now)) where
+      module _ (n : Option Candidate) (taken_up : TakenUpIn v now n (candidate (state_in v) now)) where
+        took : TakenUp (take 256 w) (drop 256 w) now n (candidate (state_of w) now)
+        took = rw (eh, er) at taken_up
+
         pub none_found : n ≡ None → (left : List ℕ) → Becomes w left (counted (state_of w)) → Rounded w left now k (Some (Ok (record { event = None; rounds = k + 1 })))
         unfolding next_of
         none_found e left c =
@@ -155,26 +164,37 @@ module _ (w : List ℕ) (now k : ℕ) (may : MayRound w now k) where
             is_none = sym took.picked.is ∙ ap (next_of (take 256 w)) e
 
         module _ (c : Candidate) (e : n ≡ Some c) where
-          pub found_is : candidate_of (take 256 w) c ≡ candidate (state_of w) now
+          found_is : candidate_of (take 256 w) c ≡ candidate (state_of w) now
           unfolding next_of
           found_is = sym (ap (next_of (take 256 w)) e) ∙ took.picked.is
 
-          pub found_stands : Stands (take 256 w) (drop 256 w) c
+          found_stands : Stands (take 256 w) (drop 256 w) c
           unfolding NextStands
           found_stands = subst (NextStands (take 256 w) (drop 256 w)) e took.picked.stands
 
-          pub found_reckoned : Reckoned (take 256 w) (drop 256 w) now c
+          pub stands_seen : (s : Words) → s ≡ v → Stands s.header.now (drop 256 w) c
+          stands_seen s es = rw (es, eh) found_stands
+
+          found_reckoned : Reckoned (take 256 w) (drop 256 w) now c
           unfolding NextReckoned
           found_reckoned = subst (NextReckoned (take 256 w) (drop 256 w) now) e took.reckoned
 
-          module _ (f : Bool) (ef : f ≡ fits (candidate_sums (state_of w) now (candidate_of (take 256 w) c))) where
+          module _
+              (f : Bool) (s : Words) (es : s ≡ v)
+              (told : (rs : List ℕ) → Reckoned s.header.now rs now c → f ≡ fits (candidate_sums (state_from s.header.now rs) now (candidate_of s.header.now c))) where
+            ef : f ≡ fits (candidate_sums (state_of w) now (candidate_of (take 256 w) c))
+            ef = let t = rw (es, eh) at told in t (drop 256 w) found_reckoned
+
             case_sums : f ≡ fits (candidate_sums (state_of w) now (candidate (state_of w) now))
             case_sums = ef ∙ ap (λ (x : RulesCandidate). fits (candidate_sums (state_of w) now x)) found_is
 
-            pub candidate_stops : f ≡ false → (left : List ℕ) (r : Option (Result Chosen Refusal)) → Marked w left k r → Rounded w left now k r
-            candidate_stops g left r m = rounded left r _ (candidate_pass (state_of w) now (sym case_sums ∙ g)) m
+            pub candidate_stops : not f ≡ true → (left : List ℕ) (r : Option (Result Chosen Refusal)) → Marked w left k r → Rounded w left now k r
+            candidate_stops g left r m = rounded left r _ (candidate_pass (state_of w) now (sym case_sums ∙ not-true f g)) m
 
-            module _ (g : f ≡ true) where
+            module _ (ng : not f ≡ false) where
+              g : f ≡ true
+              g = not-false f ng
+
               pub act_may : MayAct w now k c
               act_may = record { round = may; is = found_is; stands = found_stands; reckoned = found_reckoned; sums = sym ef ∙ g }
 
@@ -182,8 +202,8 @@ module _ (w : List ℕ) (now k : ℕ) (may : MayRound w now k) where
                 same_total : total (state_of w₁) ≡ total (state_of w)
                 same_total = ap (λ (s : State). total s) a.words.state ∙ (act_steady (state_of w) now (candidate_of (take 256 w) c)).rounds
 
-                pub acted_counts : Shaped w₁ × (total (state_of w₁) + 1 < 2 ^ 64)
-                acted_counts = (a.words.shaped, omega (arith, same_total, count_fits))
+                pub acted_counts : total (state_of w₁) + 1 < 2 ^ 64
+                acted_counts = omega (arith, same_total, count_fits)
 
                 pub acted : (w₂ : List ℕ) → Becomes w₁ w₂ (counted (state_of w₁)) → Rounded w w₂ now k p
                 acted w₂ c₂ =

@@ -17,7 +17,6 @@ use Rattle.layout.specs.Layout.{state_of}
 use Rattle.layout.specs.Changes.{side_no}
 use Rattle.queue.specs.Changes.{MayRelease, Released, head_in}
 use Rattle.queue.specs.Queues.{queue_no, queue_of}
-use Rattle.queue.proofs.HeadsChains.{queue_range}
 use Rattle.queue.specs.Heads.{head_from}
 use Rattle.queue.specs.Stamps.{first_place, drop_aggregate}
 use Rattle.queue.specs.declared.peek.Head.{Head}
@@ -88,15 +87,6 @@ later_is : (x m now : ℕ) → x ≤ m → max m now ≡ max x (now + (m - now))
 later_is x m now l = omega arith
 
 module _ (w : List ℕ) (h : Head) (due : EventDue w h) (k : ℕ) (ek : (k ≡ queue_no h.queue + 5 * side_no (side_of h.event.client)) × (k ≤ 10)) where
-  pub event_release : MayRelease w k
-  event_release =
-      record {
-        shaped = due.shaped;
-        chain = omega (arith, ek.1);
-        used = omega (arith, ek.0, (queue_range h.queue).0);
-        some = rw ek.0 due.head.some;
-      }
-
   pub event_taken : (w₁ : List ℕ) (now : ℕ) (m : Moment) (r : SimEvent) → Released w w₁ k → m.0 ≡ max h.moment.0 now → r ≡ moved_to h.event m → EventTaken w w₁ now h r
   unfolding head_from
   event_taken w₁ now m r c em er =

@@ -1,5 +1,5 @@
 -- What each case of a round asks, and what it answers. Assumes nothing.
-use Rattle.std.specs.Prelude.{ℕ, ◌+◌, ◌<◌, ◌≤◌, ◌≡◌, Bool, true, false, Option, Some, None, Result, take, drop}
+use Rattle.std.specs.Prelude.{ℕ, ◌+◌, ◌≤◌, ◌≡◌, Bool, true, false, Option, Some, None, Result, take, drop}
 use mathlib.Core.List.{List, head?}
 use Rattle.std.proofs.Math.Option.{Option as MathOption, none, some}
 use Rattle.moment.specs.declared.Length.{Length}
@@ -29,7 +29,6 @@ use Rattle.queue_peek.specs.Decoded.{block_from}
 use Rattle.queue_peek.specs.declared.blocks.BlockEnd.{BlockEnd}
 use Rattle.delay.specs.Tests.{delayed_of}
 use Rattle.candidate.specs.Candidates.{action_value, held_up_at}
-use Rattle.candidate.specs.declared.Due.{Due}
 use Rattle.candidate.specs.declared.Planned.{Planned}
 use Rattle.round.specs.Changes.{Becomes, HasFree}
 
@@ -76,21 +75,14 @@ pub record EventTaken (w left : List ℕ) (now : ℕ) (h : Head) (r : SimEvent) 
   pub words : Becomes w left (take_event (state_of w) (head_from h))
   pub event : known_event r ≡ some (taken_event (state_of w) now (head_from h))
 
--- a timer's slot, and a free record
-pub record TimerDue (w : List ℕ) (d : Due) : Type 0 where
-  pub room : HasFree w 1
-  pub machine : d.machine < 16
-
--- an action's slot, a free record, and sums within the limit
+-- a free record, and the action's sums within the limit
 pub record ActionDue (w : List ℕ) (p : Planned) : Type 0 where
   pub room : HasFree w 1
-  pub machine : p.machine < 16
   pub sums : fits (action_sums (action_value p.action).kind (side (state_of w) (side_of p.client)) (action_value p.action)) ≡ true
 
 -- the same of a `BlockOutgoing` whose slot is cleared
 pub record BeginDue (w : List ℕ) (p : Planned) : Type 0 where
   pub room : HasFree w 1
-  pub machine : p.machine < 16
   pub end : p.action.moment.0 + p.action.duration.0 ≤ moment_limit
   pub begin : p.action.moment.0 + ((side (state_of w) (side_of p.client)).fixed.action_delay + (side (state_of w) (side_of p.client)).fixed.reporting_delay) ≤ moment_limit
 
@@ -105,7 +97,6 @@ start_block s z a = push_event (begun s z.side a) (acted_event BlockOutgoing (ac
 -- a block's end, three free records, sums within the limit, and what the test at it finds
 pub record BlockDue (w : List ℕ) (now : ℕ) (k : BlockEnd) (by : Option Length) : Type 0 where
   pub accepted : Accepted w
-  pub time : now ≤ moment_limit
   pub set : (side (state_of w) (side_of k.client)).block_end ≡ some k.end.0
   pub sum : (end_event (state_of w) now (block_from k)).moment ≤ moment_limit
   pub reckoned : delayed_of by ≡ held_up_at (state_of w) now (block_from k)

@@ -79,8 +79,8 @@ module _ (h : List ℕ) (r : EventIn) (go : get_or h 16 0 ≡ 0) where
         ∙ front_no (event_rows (state_from h rs) r) ((9, full (after_push (state_from h rs) r (kind_of r.kind))) ∷ []) (en rs)
         ∙ going (state_from h rs) (push r) (not_ended h rs go)
 
-    pub push_9 : get_or h 25 0 < all + 1 → CallNumber h (push r) (some 9)
-    push_9 l rs g = last true (lt-ltb (get_or h 25 0) (suc (reserved h)) (omega arith)) rs g
+    pub push_9 : (free : ℕ) → free ≡ get_or h 25 0 → free < all + 1 → CallNumber h (push r) (some 9)
+    push_9 free ef l rs g = last true (lt-ltb (get_or h 25 0) (suc (reserved h)) (omega arith)) rs g
 
-    pub push_0 : all + 1 ≤ get_or h 25 0 → CallNumber h (push r) none
-    push_0 l rs g = last false (le-ltb (get_or h 25 0) (suc (reserved h)) (omega arith)) rs g
+    pub push_0 : (free : ℕ) → free ≡ get_or h 25 0 → all + 1 ≤ free → CallNumber h (push r) none
+    push_0 free ef l rs g = last false (le-ltb (get_or h 25 0) (suc (reserved h)) (omega arith)) rs g

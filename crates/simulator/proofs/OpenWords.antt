@@ -42,9 +42,6 @@ word_more r k d = go (ℕ_discrete (k % 4) 0)
         not_last l n = omega arith
     go (no n) = rw (ne_eqb (k % 4) 0 n)
 
-pub chain_start : (rs₀ : List ℕ) (count : ℕ) → 1 ≤ count → AllZero rs₀ → Chained rs₀ count rs₀ 1
-chain_start rs₀ count l z = ((omega arith, l), (refl, λ k. z k ∙ sym (word_none k)))
-
 word_new : (r k : ℕ) → 1 ≤ r → k ≡ 4 * r - 4 + 0 → r + 1 ≡ record_word (r + 1) k
 word_new r k l e =
     let a : k % 4 ≡ 0 = omega arith in

@@ -4,6 +4,7 @@ use mathlib.Core.Path.{◌≡◌, refl, sym, ap}
 use mathlib.Core.Bool.{Bool, true, false}
 use mathlib.Core.List.{List, [], ◌∷◌, ◌++◌, tail}
 use mathlib.Core.Option.{none, some, none-ne-some, some-ne-none}
+use Rattle.std.specs.Prelude.{if◌then◌else◌}
 use Rattle.rules.specs.State.{State}
 use Rattle.rules.specs.Arguments.{Call, push, set_action, clear_action, set_timer, clear_timer, pick_next, sim_network_stack}
 use Rattle.rules.specs.Refusals.{first_of, refusal, table}
@@ -23,6 +24,11 @@ front_no ((m, false) ∷ a) b e = front_no a b e
 -- rows that give no number do not hold
 pub all_false : (l : List (ℕ × Bool)) → none ≡ first_of l → AllFalse l
 all_false l e = none_met l (sym e)
+
+-- the last row of a table; docs/PORT.md names it
+pub last_row_lem : (n : ℕ) (t b : Bool) → t ≡ b → (if b then some n else none) ≡ first_of ((n, t) ∷ [])
+last_row_lem n t true e = ap (λ (x : Bool). first_of ((n, x) ∷ [])) (sym e)
+last_row_lem n t false e = ap (λ (x : Bool). first_of ((n, x) ∷ [])) (sym e)
 
 -- row 3 does not hold of a state that is not ended
 past : (t : Bool) (l : List (ℕ × Bool)) → t ≡ false → first_of l ≡ first_of ((3, t) ∷ l)

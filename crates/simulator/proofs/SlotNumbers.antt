@@ -1,4 +1,4 @@
--- The numbers of setting and clearing a timer or an action, test by test. Assumes nothing.
+-- The numbers of setting a timer or an action, test by test. Assumes nothing.
 use Prim.Native.Nat.{ℕ, zero, suc, ◌+◌, ◌*◌, ◌≤◌, ◌<◌}
 use mathlib.Core.Path.{◌≡◌, refl, sym, ap, ◌∙◌}
 use mathlib.Core.Bool.{Bool, true, false, not, ◌||◌, false≢true}
@@ -10,7 +10,7 @@ use lib.ListN.{get_or}
 use borrow.Author.Tests.{le-leb, lt-leb, leb-false, not-true, not-false}
 use Rattle.rules.specs.Basics.{is_some}
 use Rattle.rules.specs.Limits.{moment_limit, duration_limit}
-use Rattle.rules.specs.Arguments.{ActionIn, action_kind_of, clear_action, clear_timer, set_action, set_timer}
+use Rattle.rules.specs.Arguments.{ActionIn, action_kind_of, set_action, set_timer}
 use Rattle.rules.specs.Effects.{after_set_action, timer_set}
 use Rattle.rules.specs.Refusals.{first_of, action_too_large, full, no_machine, refusal, table}
 use Rattle.event.specs.HandedIn.{side_of, is_action_no}
@@ -41,16 +41,6 @@ pub slot_has : (h rs : List ℕ) (c : Bool) (machine : ℕ) → no_machine (stat
 slot_has h rs c machine e = leb-false (get_or h (8 + side_no (side_of c)) 0) machine (sym (ap (λ x. leb x machine) (machines_are h rs c)) ∙ e)
 
 module _ (h : List ℕ) (c : Bool) (machine : ℕ) (go : get_or h 16 0 ≡ 0) where
-  -- ---- clearing
-
-  pub clear_timer_number : (o : Option ℕ) → SlotNumber h (slot_in c machine) o → CallNumber h (clear_timer (slot_in c machine)) o
-  unfolding table
-  clear_timer_number o en rs g = en rs ∙ going (state_from h rs) (clear_timer (slot_in c machine)) (not_ended h rs go)
-
-  pub clear_action_number : (o : Option ℕ) → SlotNumber h (slot_in c machine) o → CallNumber h (clear_action (slot_in c machine)) o
-  unfolding table
-  clear_action_number o en rs g = en rs ∙ going (state_from h rs) (clear_action (slot_in c machine)) (not_ended h rs go)
-
   -- ---- setting: 5
 
   pub timer_n : (moment n : ℕ) → SlotNumber h (slot_in c machine) (some n) → CallNumber h (set_timer (slot_in c machine) moment) (some n)

@@ -1,36 +1,22 @@
 -- The rows of a network step up to 8. Assumes nothing.
 use Prim.Native.Nat.{ℕ}
 use mathlib.Core.Path.{◌≡◌, refl, ◌∙◌}
-use mathlib.Core.Bool.{Bool, true, false, ◌||◌}
+use mathlib.Core.Bool.{Bool, true, false}
 use mathlib.Core.List.{List, [], ◌∷◌, ◌++◌}
 use mathlib.Core.Logic.{inl, inr}
 use mathlib.Core.Option.{Option, none, some, none-ne-some, some-ne-none}
-use lib.Dec.{ltb}
 use lib.ListN.{take, drop}
 use Rattle.std.specs.Prelude.{if◌then◌else◌}
 use Rattle.rules.specs.Basics.{kind_of}
-use Rattle.rules.specs.Limits.{moment_limit}
 use Rattle.rules.specs.State.{State}
 use Rattle.rules.specs.Arguments.{EventIn, sim_network_stack}
 use Rattle.rules.specs.Effects.{after_step}
-use Rattle.rules.specs.Refusals.{first_of, full, refusal, table, event_no_machine, event_too_large, delay_above_moment}
-use Rattle.layout.specs.Layout.{state_from, state_of}
-use Rattle.simulator.specs.Numbers.{EventNumber, Admits, Numbered}
+use Rattle.rules.specs.Refusals.{first_of, full, refusal, table}
+use Rattle.layout.specs.Layout.{state_of}
+use Rattle.simulator.specs.Numbers.{Admits, Numbered}
 use Rattle.simulator.specs.StepNumbers.{step_rows, StepNumber, UpToEight}
 use Rattle.simulator.proofs.Rows.{front_yes, going, ended_three}
 use Rattle.simulator.proofs.Admitting.{admitted, mark}
-
--- ---- the rows, one after another
-
-rows_n : (a b c t d : Bool) (n : ℕ) → some n ≡ first_of ((5, a) ∷ (6, b) ∷ (7, c) ∷ []) → some n ≡ first_of ((5, a) ∷ (6, b) ∷ (7, t || c) ∷ (8, d) ∷ [])
-rows_n true b c t d n e = e
-rows_n false true c t d n e = e
-rows_n false false true true d n e = e
-rows_n false false true false d n e = e
-rows_n false false false t d n e = absurd (some-ne-none n e)
-
-pub step_n : (h : List ℕ) (r : EventIn) (now n : ℕ) → EventNumber h r (some n) → StepNumber h now r (some n)
-step_n h r now n e rs = rows_n (event_no_machine (state_from h rs) r) (ltb 9 r.kind) (event_too_large r) (ltb moment_limit now) (delay_above_moment r) n (e rs)
 
 -- ---- on lent words
 

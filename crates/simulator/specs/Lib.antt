@@ -9,3 +9,4 @@ pub mod OpeningParts
 pub mod StepNumbers
 pub mod Does
 pub mod Alike
+pub mod Alone

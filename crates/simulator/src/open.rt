@@ -87,8 +87,8 @@ fn write_settings(block: &mut [u64], o: Opening)
 
 // The records are chained upward from 1.
 fn chain_free(rest: &mut [u64], count: u64)
-    requires fact_1 { (length rest.old ≡ 4 * count) × (1 ≤ count) }
-    requires fact_2 { AllZero rest.old }
+    requires records { (length rest.old ≡ 4 * count) × (1 ≤ count) }
+    requires zero { AllZero rest.old }
     ensures { (length rest.new ≡ length rest.old) × ((k : ℕ) → get_or rest.new k 0 ≡ record_word count k) }
 {
     for r in 1..count {

@@ -1,15 +1,16 @@
 -- `delay::base_moment` meets its contract. Assumes nothing.
-use Rattle.delay.proofs.Packets.{head_there, base_none, base_some, base_fits}
+use Rattle.delay.proofs.Packets.{base_none, base_some, base_fits}
 use Rattle.delay.proofs.base_moment.Goals as goal
 
-pub returns-then-count-eq0 : goal.returns-then-count-eq0
-returns-then-count-eq0 c = search base_none
-
-pub get-requires-clause-fact_1 : goal.get-requires-clause-fact_1
-get-requires-clause-fact_1 c = search head_there
+pub returns-in_err-first : goal.returns-in_err-first
+returns-in_err-first c = rw c.from_residual.ensures (base_none _ _ _ _ c.chain.ensures.0 c.chain.ensures.1 _ c.in_err-first.ensures)
 
 pub plus-requires : goal.plus-requires
-plus-requires c = search base_fits
+plus-requires c =
+    let f = c.in_ok-first.ensures in
+    base_fits _ _ _ _ c.chain.ensures.0 c.chain.ensures.1 _ _ _ f.0 f.1 f.2 c.moment.ensures _ c.args.view.now.good c.args.sum.within
 
 pub returns : goal.returns
-returns c = search base_some
+returns c =
+    let f = c.in_ok-first.ensures in
+    base_some _ _ _ _ c.chain.ensures.0 c.chain.ensures.1 _ _ _ f.0 f.1 f.2 c.moment.ensures _ _ c.plus.ensures

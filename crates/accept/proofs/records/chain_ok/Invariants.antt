@@ -5,4 +5,4 @@ use Rattle.layout.proofs.Walk.{Rest}
 use Rattle.accept.proofs.records.chain_ok.Given as goal
 
 abbrev pub invariant-loop : goal.invariant-loop
-invariant-loop l = Rest (Chain l.rest l.k l.machines l.n 0 0 l.head) (Chain l.rest l.k l.machines (l.n - l.counter) l.moment l.rank l.at)
+invariant-loop l = Rest (Chain l.rest l.k l.machines l.fn.chain.count 0 0 l.fn.chain.head) (Chain l.rest l.k l.machines (l.fn.chain.count - l.counter) l.moment l.rank l.at)

@@ -1,10 +1,8 @@
 -- `calls::turn::bit` meets its contract. Assumes nothing.
+use Prim.Native.Nat.{◌-◌}
 use Rattle.calls.specs.Rows.{bit}
 use mathlib.Core.Path.{◌≡◌}
 use Rattle.calls.proofs.turn.bit.Given as goal
 
-abbrev pub invariant-loop-left : goal.invariant-loop-left
-invariant-loop-left l = bit l.rest l.left ≡ bit l.n l.k
-
-abbrev pub decreases-loop-left : goal.decreases-loop-left
-decreases-loop-left l = l.left
+abbrev pub invariant-loop : goal.invariant-loop
+invariant-loop l = bit l.rest (l.k - l.counter) ≡ bit l.n l.k

@@ -1,9 +1,6 @@
 -- `calls::turn::turn` meets its contract. Assumes nothing.
-use Rattle.calls.proofs.RowLaws.{turn_none, turn_refused, turn_long, turn_accepted}
+use Rattle.calls.proofs.RowLaws.{turn_none, turn_refused, turn_long}
 use Rattle.calls.proofs.turn.turn.Goals as goal
-
-pub sim_network_stack_on-b-requires : goal.sim_network_stack_on-b-requires
-sim_network_stack_on-b-requires c = turn_accepted c.args.block.now _ c.requires c.pick_next_on-a.result _ c.pick_next_on-a.ensures
 
 pub returns-in-Some : goal.returns-in-Some
 returns-in-Some c = turn_long c.args.block.now _ c.requires c.pick_next_on-a.result _ c.pick_next_on-a.ensures _ _ c.in-Ok.is c.in-Some.is c.sim_network_stack_on-b.result _ _ c.sim_network_stack_on-b.ensures c.turn_row.ensures

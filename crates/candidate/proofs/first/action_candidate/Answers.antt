@@ -1,18 +1,15 @@
 -- `candidate::first::action_candidate` meets its contract. Assumes nothing.
-use Rattle.candidate.proofs.PickLaws.{action_absent, ahead_fits, action_none, action_one, action_some}
+use Rattle.candidate.proofs.PickLaws.{action_absent, ahead_fits, action_none, action_some}
 use Rattle.candidate.proofs.first.action_candidate.Goals as goal
 
-pub returns-in_default : goal.returns-in_default
-returns-in_default c = search action_absent
+pub returns-in_err-l : goal.returns-in_err-l
+returns-in_err-l c = rw c.from_residual.ensures (search (action_absent, c.in_err-l.was))
 
 pub plus-requires : goal.plus-requires
-plus-requires c = search ahead_fits
+plus-requires c = search (ahead_fits, c.in_ok-l.was)
 
-pub returns-in_default-due : goal.returns-in_default-due
-returns-in_default-due c = search action_none
-
-pub planned-requires : goal.planned-requires
-planned-requires c = search action_one
+pub returns-in_err-d : goal.returns-in_err-d
+returns-in_err-d c = rw c.from_residual-in_err-d.ensures (let p = rw c.of.ensures at c.due.ensures in search (action_none, p, c.in_ok-l.was, c.in_err-d.was))
 
 pub returns : goal.returns
-returns c = search action_some
+returns c = let p = rw c.of.ensures at c.due.ensures in search (action_some, p, c.planned.ensures, c.in_ok-l.was, c.in_ok-d.was)

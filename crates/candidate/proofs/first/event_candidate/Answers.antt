@@ -2,8 +2,8 @@
 use Rattle.candidate.proofs.PickLaws.{event_none, event_some}
 use Rattle.candidate.proofs.first.event_candidate.Goals as goal
 
-pub returns-in_default : goal.returns-in_default
-returns-in_default c = λ v o p. event_none _ (search c.in_default.not-Some) _ _ o p
+pub returns-in_err-h : goal.returns-in_err-h
+returns-in_err-h c = λ v o p. rw c.from_residual.ensures (search (event_none, p, c.in_err-h.was))
 
 pub returns : goal.returns
-returns c = λ v o p. event_some _ _ c.in-Some.is _ _ o p
+returns c = λ v o p. search (event_some, p, c.in_ok-h.was)

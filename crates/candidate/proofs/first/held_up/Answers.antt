@@ -2,11 +2,11 @@
 use Rattle.candidate.proofs.SumLaws.{held_none, held_late, held_by}
 use Rattle.candidate.proofs.first.held_up.Goals as goal
 
-pub returns-in_default : goal.returns-in_default
-returns-in_default c = search held_none
+pub returns-in_err-h : goal.returns-in_err-h
+returns-in_err-h c = rw c.from_residual.ensures (search (held_none, c.in_err-h.was))
 
 pub returns-then-ge : goal.returns-then-ge
-returns-then-ge c = search held_late
+returns-then-ge c = search (held_late, c.in_ok-h.was)
 
 pub returns : goal.returns
-returns c = search held_by
+returns c = search (held_by, c.in_ok-h.was)

@@ -1,18 +1,9 @@
 -- `candidate::sums::candidate_fits` meets its contract. Assumes nothing.
-use Rattle.candidate.proofs.ActionSums.{good_limits, stands_end, stands_moment, stands_duration, case_aggregate, case_block, case_event, case_timer, case_action}
+use Rattle.candidate.proofs.ActionSums.{stands_end, stands_moment, stands_duration, case_aggregate, case_block, case_event, case_timer, case_action}
 use Rattle.candidate.proofs.sums.candidate_fits.Goals as goal
 
-pub aggregate_fits-requires : goal.aggregate_fits-requires
-aggregate_fits-requires c = search good_limits
-
-pub block_fits-requires-clause-limits : goal.block_fits-requires-clause-limits
-block_fits-requires-clause-limits c = search good_limits
-
-pub block_fits-requires-clause-end_small : goal.block_fits-requires-clause-end_small
-block_fits-requires-clause-end_small c = search stands_end
-
-pub action_fits-requires-clause-limits : goal.action_fits-requires-clause-limits
-action_fits-requires-clause-limits c = search good_limits
+pub block_fits-requires : goal.block_fits-requires
+block_fits-requires c = search stands_end
 
 pub action_fits-requires-clause-moment_small : goal.action_fits-requires-clause-moment_small
 action_fits-requires-clause-moment_small c = search stands_moment

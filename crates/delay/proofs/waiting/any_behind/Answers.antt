@@ -1,18 +1,12 @@
 -- `delay::waiting::any_behind` meets its contract. Assumes nothing.
-use Rattle.delay.proofs.Packets.{rest_linked, rest_sorted, head_there, any_rest, any_empty}
+use Rattle.delay.proofs.Packets.{rest_sorted, any_rest, any_empty}
 use Rattle.delay.proofs.waiting.any_behind.Goals as goal
 
-pub returns-then-count-eq0 : goal.returns-then-count-eq0
-returns-then-count-eq0 c = search any_empty
+pub returns-in_default : goal.returns-in_default
+returns-in_default c = any_empty _ _ _ _ _ c.chain-k.ensures.0 c.chain-k.ensures.1 _ c.chain-behind.ensures.all _ _ c.in_default.ensures.steps.0
 
-pub get-next-requires-clause-fact_1 : goal.get-next-requires-clause-fact_1
-get-next-requires-clause-fact_1 c = search head_there
-
-pub any_within-requires-clause-fact_1 : goal.any_within-requires-clause-fact_1
-any_within-requires-clause-fact_1 c = (c.chain-k.result, search rest_linked)
-
-pub any_within-requires-clause-fact_2 : goal.any_within-requires-clause-fact_2
-any_within-requires-clause-fact_2 c = search rest_sorted
+pub any_within-requires : goal.any_within-requires
+any_within-requires c = rest_sorted _ _ _ _ _ c.chain-k.ensures.0 c.chain-k.ensures.1 _ c.chain-behind.ensures.all c.args.view.now.good _ _ c.in-Some.ensures.steps.0
 
 pub returns : goal.returns
-returns c = search any_rest
+returns c = any_rest _ _ _ _ _ c.chain-k.ensures.0 c.chain-k.ensures.1 _ c.chain-behind.ensures.all _ _ _ _ _ c.in-Some.ensures.steps.0 c.any_within.ensures

@@ -2,8 +2,8 @@
 use Rattle.delay.proofs.Packets.{chain_sorted, latest_held}
 use Rattle.delay.proofs.waiting.latest_in.Goals as goal
 
-pub latest-requires-clause-fact_2 : goal.latest-requires-clause-fact_2
-latest-requires-clause-fact_2 c = search chain_sorted
+pub latest-requires : goal.latest-requires
+latest-requires c = chain_sorted _ _ _ _ _ c.chain-k.ensures.0 c.chain-k.ensures.1 _ c.chain.ensures.all c.args.view.now.good
 
 pub returns : goal.returns
-returns c = search latest_held
+returns c = latest_held _ _ _ _ _ c.chain-k.ensures.0 c.chain-k.ensures.1 _ c.chain.ensures.all _ _ _ _ c.latest.ensures

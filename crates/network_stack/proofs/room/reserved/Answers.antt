@@ -1,14 +1,13 @@
 -- `network_stack::room::reserved` meets its contract. Assumes nothing.
-use mathlib.Core.Path.{sym}
-use Rattle.network_stack.proofs.PlanLaws.{front_long}
+use native.Mathlib.Omega.{arith}
 use Rattle.network_stack.proofs.FullLaws.{reserved_in_lem}
 use Rattle.network_stack.proofs.room.reserved.Goals as goal
 
-pub slice_bounds-reserved-end : goal.slice_bounds-reserved-end
-slice_bounds-reserved-end c = sym (search front_long)
+pub of-requires : goal.of-requires
+of-requires c = omega (arith, c.requires.size.least)
 
 pub reserved-requires : goal.reserved-requires
-reserved-requires c = search front_long
+reserved-requires c = rw c.of.ensures.header (record { limited = c.requires.good.limits; slots = c.requires.good.slots })
 
 pub returns : goal.returns
-returns c = reserved_in_lem c.args.block.now _ c.reserved.ensures
+returns c = reserved_in_lem c.args.block.now _ (rw c.of.ensures.header at c.reserved.ensures)

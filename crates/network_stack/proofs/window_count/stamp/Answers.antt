@@ -7,7 +7,7 @@ pub add-requires : goal.add-requires
 add-requires c = search stamp_count
 
 pub told-requires : goal.told-requires
-told-requires c = tell_may _ _ _ _ _ c.requires c.stamps-k.ensures _ _ c.add.ensures _ c.set_chain.ensures
+told-requires c = tell_may _ _ _ _ _ c.requires c.stamps-k.ensures _ _ c.add.ensures _ c.set_chain.ensures c.args.time.within
 
 pub returns : goal.returns
 returns c = search stamp_told

@@ -2,14 +2,14 @@
 use Rattle.network_stack.proofs.TellLaws.{oldest_in, oldest_small, tells, window_small}
 use Rattle.network_stack.proofs.window_count.told.Goals as goal
 
-pub moment_of-oldest-requires-clause-fact_2 : goal.moment_of-oldest-requires-clause-fact_2
-moment_of-oldest-requires-clause-fact_2 c = search oldest_in
+pub record-requires-clause-within : goal.record-requires-clause-within
+record-requires-clause-within c = oldest_in _ _ _ c.requires c.stamps-k.ensures _ _ c.of-chain.ensures.head c.of-chain.ensures.count
 
-pub too_old_from-falls-requires-clause-fact_1 : goal.too_old_from-falls-requires-clause-fact_1
-too_old_from-falls-requires-clause-fact_1 c = search oldest_small
+pub invariant_of-oldest : goal.invariant_of-oldest
+invariant_of-oldest c = record { within = oldest_small _ _ _ c.requires c.stamps-k.ensures _ _ c.of-chain.ensures.head c.of-chain.ensures.count _ _ _ c.record.ensures.records c.record.ensures.at c.moment.ensures }
 
-pub too_old_from-falls-requires-clause-fact_2 : goal.too_old_from-falls-requires-clause-fact_2
-too_old_from-falls-requires-clause-fact_2 c = search window_small
+pub invariant_of-window : goal.invariant_of-window
+invariant_of-window c = record { within = search window_small }
 
 pub returns : goal.returns
-returns c = search tells
+returns c = tells _ _ _ c.requires c.stamps-k.ensures _ _ c.of-chain.ensures.head c.of-chain.ensures.count _ _ _ c.record.ensures.records c.record.ensures.at c.moment.ensures _ c.too_old_from-falls.ensures

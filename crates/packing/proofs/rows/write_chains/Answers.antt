@@ -8,8 +8,8 @@ use Rattle.packing.proofs.rows.write_chains.Goals as goal
 pub loop-k-init : goal.loop-k-init
 loop-k-init c = chains_start _ _
 
-pub copy_chain-requires-clause-row : goal.copy_chain-requires-clause-row
-copy_chain-requires-clause-row c = rw (count_at c.args.chains.now c.loop-k.k, head_at c.args.chains.now c.loop-k.k) (c.requires.rows c.loop-k.k (omega arith) (omega arith))
+pub invariant_of-chain : goal.invariant_of-chain
+invariant_of-chain c = record { row = rw (count_at c.args.chains.now c.loop-k.k, head_at c.args.chains.now c.loop-k.k) (c.requires.rows c.loop-k.k (omega arith) (omega arith)) }
 
 pub copy_chain-requires-clause-room : goal.copy_chain-requires-clause-room
 copy_chain-requires-clause-room c = rw (count_at c.args.chains.now c.loop-k.k) (chains_fit _ _ _ _ _ _ _ c.loop-k.invariant (omega arith) (omega arith) c.requires.counts_in_bounds)

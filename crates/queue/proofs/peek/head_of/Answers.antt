@@ -1,16 +1,16 @@
 -- `queue::peek::head_of` meets its contract. Assumes nothing.
-use Rattle.queue.proofs.HeadsChains.{head_within}
 use Rattle.queue.proofs.HeadsKeys.{head_none, head_fits, head_some}
 use Rattle.queue.proofs.peek.head_of.Goals as goal
 
-pub returns-then-count-eq0 : goal.returns-then-count-eq0
-returns-then-count-eq0 c = search head_none
-
-pub event_at-event-requires : goal.event_at-event-requires
-event_at-event-requires c = search head_within
+pub returns-in_err-first : goal.returns-in_err-first
+returns-in_err-first c = rw c.from_residual.ensures (head_none _ _ _ _ _ c.chain.ensures.0 c.in_err-first.ensures)
 
 pub plus-moment-requires : goal.plus-moment-requires
-plus-moment-requires c = search head_fits
+plus-moment-requires c =
+    let f = c.in_ok-first.ensures in
+    head_fits _ _ _ _ _ c.chain.ensures.0 c.args.view.now.good f.0 _ _ f.1 f.2 _ c.added-plus.ensures _ c.event-event.ensures
 
 pub returns : goal.returns
-returns c = search head_some
+returns c =
+    let f = c.in_ok-first.ensures in
+    head_some _ _ _ _ _ c.chain.ensures.0 c.args.view.now.good f.0 _ _ f.1 f.2 _ c.added-plus.ensures _ _ c.event-event.ensures c.plus-moment.ensures

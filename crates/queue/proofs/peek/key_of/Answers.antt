@@ -1,19 +1,16 @@
 -- `queue::peek::key_of` meets its contract. Assumes nothing.
-use Rattle.queue.proofs.HeadsChains.{head_within}
 use Rattle.queue.proofs.HeadsKeys.{key_none, key_plus, key_some}
 use Rattle.queue.proofs.peek.key_of.Goals as goal
 
-pub returns-then-count-eq0 : goal.returns-then-count-eq0
-returns-then-count-eq0 c = search key_none
-
-pub get-requires-clause-fact_1 : goal.get-requires-clause-fact_1
-get-requires-clause-fact_1 c = search head_within
+pub returns-in_err-first : goal.returns-in_err-first
+returns-in_err-first c = rw c.from_residual.ensures (key_none _ _ _ _ _ c.chain.ensures.0 c.in_err-first.ensures)
 
 pub plus-moment-requires : goal.plus-moment-requires
-plus-moment-requires c = search key_plus
-
-pub get-requires-2-clause-fact_1 : goal.get-requires-2-clause-fact_1
-get-requires-2-clause-fact_1 c = search head_within
+plus-moment-requires c =
+    let f = c.in_ok-first.ensures in
+    key_plus _ _ _ _ _ c.chain.ensures.0 c.args.view.now.good f.0 _ _ f.1 f.2 _ c.added-plus.ensures _ c.moment.ensures
 
 pub returns : goal.returns
-returns c = search key_some
+returns c =
+    let f = c.in_ok-first.ensures in
+    key_some _ _ _ _ _ c.chain.ensures.0 c.args.view.now.good f.0 _ _ f.1 f.2 _ c.added-plus.ensures _ _ _ _ _ c.moment.ensures c.plus-moment.ensures c.tag.ensures c.kind.ensures c.rank.ensures

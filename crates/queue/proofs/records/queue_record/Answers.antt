@@ -1,24 +1,25 @@
 -- `queue::records::queue_record` meets its contract. Assumes nothing.
-use Rattle.queue.proofs.Taking.{take_wide, take_in, take_join, take_sorted, take_spare, take_count, queue_done}
+use mathlib.Core.Path.{◌∙◌}
+use Rattle.queue_event.specs.Words.{next_of}
+use Rattle.queue.proofs.Taking.{take_in, take_join, take_sorted, take_spare, take_count, take_wide, queue_done}
 use Rattle.queue.proofs.records.queue_record.Goals as goal
 
-pub next_of-next-requires-clause-fact_1 : goal.next_of-next-requires-clause-fact_1
-next_of-next-requires-clause-fact_1 c = search take_wide
+pub record-requires : goal.record-requires
+record-requires c = record { wide = take_wide _ _ _ c.requires.may; within = take_in _ _ _ c.requires.may _ c.of-free.ensures.head }
 
-pub next_of-next-requires-clause-fact_2 : goal.next_of-next-requires-clause-fact_2
-next_of-next-requires-clause-fact_2 c = search take_in
+pub insert_in-new-requires : goal.insert_in-new-requires
+insert_in-new-requires c = record {
+  may = take_join _ _ _ c.requires.may _ _ _ c.mark-k.ensures c.of-chain.ensures.head c.of-chain.ensures.count _ c.of-free.ensures.head;
+  sorted = take_sorted _ _ _ c.requires.may _ _ _ c.mark-k.ensures c.of-chain.ensures.head c.of-chain.ensures.count c.requires.ordered;
+}
 
-pub insert_in-new-requires-clause-fact_1 : goal.insert_in-new-requires-clause-fact_1
-insert_in-new-requires-clause-fact_1 c = search take_join
+pub took-requires-clause-count : goal.took-requires-clause-count
+took-requires-clause-count c = take_count _ _ _ c.requires.may _ _ _ c.mark-k.ensures c.of-chain.ensures.head c.of-chain.ensures.count
 
-pub insert_in-new-requires-clause-fact_2 : goal.insert_in-new-requires-clause-fact_2
-insert_in-new-requires-clause-fact_2 c = search take_sorted
-
-pub took-requires-clause-fact_3 : goal.took-requires-clause-fact_3
-took-requires-clause-fact_3 c = search take_count
-
-pub took-requires-clause-fact_4 : goal.took-requires-clause-fact_4
-took-requires-clause-fact_4 c = search take_spare
+pub took-requires-clause-some : goal.took-requires-clause-some
+took-requires-clause-some c = take_spare _ _ _ c.requires.may _ c.of-free.ensures.count
 
 pub returns : goal.returns
-returns c = search queue_done
+returns c =
+    let next = c.next-next.ensures ∙ (λ d. next_of (c.record.ensures.records d) (c.record.ensures.at d)) in
+    queue_done _ _ _ _ _ _ _ _ _ _ _ _ _ c.requires.may c.mark-k.ensures c.of-free.ensures.head c.of-free.ensures.count c.of-chain.ensures.head c.of-chain.ensures.count next c.insert_in-new.ensures c.took.ensures

@@ -1,14 +1,22 @@
 -- `queue_event::append::append` meets its contract. Assumes nothing.
-use borrow.Author.Rules.{rules}
-use Rattle.queue_event.proofs.Appends.{append_first, append_after, last_in}
-use Rattle.queue_event.proofs.Frames.{in_len}
+use native.Mathlib.Omega.{arith}
+use mathlib.Core.Path.{refl}
+use lib.Dec.{lit<}
+use Rattle.queue_event.proofs.Appends.{append_first, append_after}
+use Rattle.queue_event.proofs.Laws.{chain_row}
+use Rattle.queue_event.proofs.Links.{filled_in}
 use Rattle.queue_event.proofs.append.append.Goals as goal
 
-pub returns-then-pred-eq0 : goal.returns-then-pred-eq0
-returns-then-pred-eq0 c = search append_first
+pub invariant_of-all : goal.invariant_of-all
+invariant_of-all c = record { row = chain_row _ _ _ _ c.requires.linked }
+
+pub returns-in_default : goal.returns-in_default
+returns-in_default c = append_first _ _ _ _ _ _ _ c.requires.linked c.requires.used c.requires.within c.requires.free c.in_default.ensures.number _ refl c.fill.ensures
 
 pub store-requires : goal.store-requires
-store-requires c = search (rules, in_len, last_in)
+store-requires c = record { within = filled_in _ _ _ _ _ _ _ _ _ c.requires.within c.fill-2.ensures c.in-Some.ensures.of c.in-Some.pred.within; field = lit< tt }
 
 pub returns : goal.returns
-returns c = search append_after
+returns c =
+    let one = c.in-Some.pred.within.one in
+    append_after _ _ _ _ _ _ _ c.requires.linked c.requires.used c.requires.within c.requires.free c.in-Some.ensures.number _ _ (λ e. omega arith) c.fill-2.ensures c.store.ensures

@@ -1,15 +1,11 @@
 -- `queue_event::insert::stays` meets its contract. Assumes nothing.
-use native.Mathlib.Omega.{arith}
-use mathlib.Core.Path.{sym, ◌∙◌}
-use borrow.Author.Tests.{lt-ltb, ne_eqb}
-use Rattle.queue_event.proofs.Inserts.{stays_less, stays_ranks, stays_more}
+use mathlib.Core.Path.{ap₂, ◌∙◌}
+use Rattle.std.specs.Prelude.{not}
+use Rattle.rules.specs.Basics.{before}
+use Rattle.queue_event.specs.Order.{stays}
+use Rattle.queue_event.proofs.Pairs.{pair_le}
 use Rattle.queue_event.proofs.insert.stays.Goals as goal
 
-pub returns-then-a-b : goal.returns-then-a-b
-returns-then-a-b c = lt-ltb _ _ (omega arith) ∙ sym (stays_less _ _ _ _ (omega arith))
-
-pub returns-then-a-b-2 : goal.returns-then-a-b-2
-returns-then-a-b-2 c = search stays_ranks
-
-pub returns-else-a-b-2 : goal.returns-else-a-b-2
-returns-else-a-b-2 c = ne_eqb _ _ (λ e. omega arith) ∙ sym (stays_more _ _ _ _ (omega arith))
+pub returns : goal.returns
+unfolding stays
+returns c = c.le.ensures ∙ pair_le c.args.a c.kind.result c.args.b c.kind-2.result ∙ ap₂ (λ y x. not (before c.args.b y c.args.a x)) c.kind-2.ensures c.kind.ensures

@@ -3,4 +3,4 @@ use Rattle.round.proofs.ActionLaws.{begin_shows}
 use Rattle.round.proofs.actions.begin_event.Goals as goal
 
 pub returns : goal.returns
-returns c = begin_shows c.args.p c.args.delay c.args.bypass _ c.requires.fact_1 c.plus.ensures
+returns c = rw c.plain.ensures (begin_shows c.args.p c.args.delay c.args.bypass _ c.plus-moment.ensures)

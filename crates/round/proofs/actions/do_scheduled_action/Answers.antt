@@ -1,15 +1,9 @@
 -- `round::actions::do_scheduled_action` meets its contract. Assumes nothing.
-use Rattle.round.proofs.ActionDone.{send_may, send_done, start_may, start_done}
+use Rattle.round.proofs.ActionDone.{still_free, send_done, start_may, start_done}
 use Rattle.round.proofs.actions.do_scheduled_action.Goals as goal
 
-pub clear_action-requires-clause-fact_1 : goal.clear_action-requires-clause-fact_1
-clear_action-requires-clause-fact_1 c = c.requires.room.shaped
-
-pub clear_action-requires-clause-fact_2 : goal.clear_action-requires-clause-fact_2
-clear_action-requires-clause-fact_2 c = c.requires.machine
-
 pub send_padding-requires : goal.send_padding-requires
-send_padding-requires c = let all = send_may _ c.args.p c.requires _ c.clear_action.ensures in record { fact_1 = all.0; fact_2 = all.1 }
+send_padding-requires c = still_free _ c.args.p c.requires _ c.clear_action.ensures
 
 pub returns-then-kind-eq-SEND_PADDING : goal.returns-then-kind-eq-SEND_PADDING
 returns-then-kind-eq-SEND_PADDING c = send_done _ c.args.p c.requires _ c.clear_action.ensures c.if-kind-eq-SEND_PADDING.true _ c.send_padding.ensures

@@ -3,4 +3,4 @@ use Rattle.round.proofs.ActionLaws.{padding_shows}
 use Rattle.round.proofs.actions.padding_event.Goals as goal
 
 pub returns : goal.returns
-returns c = padding_shows c.args.p c.args.delay c.requires
+returns c = rw c.plain.ensures (padding_shows c.args.p c.args.delay)

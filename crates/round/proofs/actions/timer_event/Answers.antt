@@ -3,4 +3,4 @@ use Rattle.round.proofs.ActionLaws.{timer_shows}
 use Rattle.round.proofs.actions.timer_event.Goals as goal
 
 pub returns : goal.returns
-returns c = timer_shows c.args.d c.requires
+returns c = rw c.plain.ensures (timer_shows c.args.d)

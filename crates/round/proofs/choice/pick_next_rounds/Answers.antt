@@ -7,9 +7,6 @@ use Rattle.round.proofs.choice.pick_next_rounds.Goals as goal
 pub loop-c-init : goal.loop-c-init
 loop-c-init c = choice_begins _ _ c.requires
 
-pub round-requires : goal.round-requires
-round-requires c = c.loop-c.invariant.may
-
 pub returns-in-Some : goal.returns-in-Some
 returns-in-Some c = choice_ends _ _ _ _ _ _ c.loop-c.invariant c.round.ensures _ (search rules)
 

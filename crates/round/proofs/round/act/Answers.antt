@@ -8,11 +8,11 @@ take_aggregate-requires c = search aggregate_due
 pub returns-in-Aggregate : goal.returns-in-Aggregate
 returns-in-Aggregate c = search aggregate_acted
 
-pub end_block-requires-clause-fact_1 : goal.end_block-requires-clause-fact_1
-end_block-requires-clause-fact_1 c = search block_due
+pub end_block-requires-clause-due : goal.end_block-requires-clause-due
+end_block-requires-clause-due c = search block_due
 
-pub end_block-requires-clause-fact_2 : goal.end_block-requires-clause-fact_2
-end_block-requires-clause-fact_2 c = act_rounds _ _ _ _ c.requires
+pub end_block-requires-clause-rounds_small : goal.end_block-requires-clause-rounds_small
+end_block-requires-clause-rounds_small c = act_rounds _ _ _ _ c.requires
 
 pub returns-in-Block : goal.returns-in-Block
 returns-in-Block c = search block_acted

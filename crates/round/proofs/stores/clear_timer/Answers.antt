@@ -1,7 +1,6 @@
 -- `round::stores::clear_timer` meets its contract. Assumes nothing.
 use Rattle.round.proofs.HeaderWords.{timer_cleared_lem}
-use Rattle.event.specs.HandedIn.{side_of}
 use Rattle.round.proofs.stores.clear_timer.Goals as goal
 
 pub returns : goal.returns
-returns c = timer_cleared_lem _ c.requires.fact_1 (side_of c.args.client) _ _ c.requires.fact_2 c.slot-at.ensures.0
+returns c = search timer_cleared_lem

@@ -1,5 +1,4 @@
 -- `simulator::open::open` meets its contract. Assumes nothing.
-use Rattle.layout.proofs.Deciding.{passed}
 use Rattle.simulator.proofs.OpenNumbers.{opens_1, opens_4, opens_0}
 use Rattle.simulator.proofs.open.open.Goals as goal
 
@@ -8,9 +7,6 @@ returns-then-not-size_ok c = search opens_1
 
 pub returns-then-not-fits : goal.returns-then-not-fits
 returns-then-not-fits c = search opens_4
-
-pub write_state-requires : goal.write_state-requires
-write_state-requires c = passed c.size_ok.ensures c.if-not-size_ok.false-raw
 
 pub returns : goal.returns
 returns c = search opens_0

@@ -1,5 +1,4 @@
 -- `simulator::pack::pack` meets its contract. Assumes nothing.
-use Rattle.layout.proofs.Deciding.{passed}
 use Rattle.simulator.proofs.Packing.{packs_length, packs_other, packs_bad, packs_done}
 use Rattle.simulator.proofs.pack.pack.Goals as goal
 
@@ -11,9 +10,6 @@ returns-then-second-block c = search packs_other
 
 pub returns-then-not-accepted : goal.returns-then-not-accepted
 returns-then-not-accepted c = search packs_bad
-
-pub pack-requires-clause-fact_1 : goal.pack-requires-clause-fact_1
-pack-requires-clause-fact_1 c = passed c.accepted.ensures c.if-not-accepted.false-raw
 
 pub returns : goal.returns
 returns c = search packs_done

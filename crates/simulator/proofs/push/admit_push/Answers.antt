@@ -1,24 +1,10 @@
 -- `simulator::push::admit_push` meets its contract. Assumes nothing.
-use native.Mathlib.Omega.{arith}
-use mathlib.Core.Path.{sym}
 use Rattle.simulator.proofs.Handed.{handed}
-use Rattle.simulator.proofs.Admitting.{admit_n, admitted_wide, admitted_going, admitted_number}
+use Rattle.simulator.proofs.Admitting.{admit_n, admitted_going}
 use Rattle.simulator.proofs.push.admit_push.Goals as goal
 
 pub returns-in_err-going : goal.returns-in_err-going
 returns-in_err-going c = rw (handed c.from_residual.result c.in_err-going.field-0.0 c.from_residual.ensures) (search (admit_n, c.in_err-going.ensures))
 
-pub of-requires : goal.of-requires
-of-requires c = omega (arith, c.requires.size.least)
-
-pub check_push-requires-clause-limits : goal.check_push-requires-clause-limits
-check_push-requires-clause-limits c = rw c.of.ensures.header c.requires.good.limits
-
-pub check_push-requires-clause-going : goal.check_push-requires-clause-going
-check_push-requires-clause-going c = rw c.of.ensures.header (search (admitted_going, c.in_ok-going.ensures))
-
-pub check_push-requires-clause-slots : goal.check_push-requires-clause-slots
-check_push-requires-clause-slots c = rw c.of.ensures.header c.requires.good.slots
-
-pub returns : goal.returns
-returns c = let number = rw c.of.ensures.header at c.check_push.ensures in search (admitted_number, c.in_ok-going.ensures, number)
+pub check_push-requires : goal.check_push-requires
+check_push-requires c = rw c.of.ensures.header (search (admitted_going, c.in_ok-going.ensures))

@@ -9,4 +9,4 @@ use Rattle.accept.proofs.Slots.{each_decides}
 use Rattle.accept.proofs.header.Header.each_slot.Goals as goal
 
 pub returns : goal.returns
-returns c = each_decides (SlotOk c.args.self.now.words.now) _ _ _ (cases_from_all _ _ _ (SlotOk c.args.self.now.words.now) (λ j. SlotOk c.args.self.now.words.now j → ⊥) c.all.ensures.ran (YieldsList-from_range c.args.from c.args.end _ refl refl) (λ x q k. search (rules, tests)) (λ x q k. search (rules, tests, denied)))
+returns c = each_decides (SlotOk c.args.self.now.words.now) _ _ _ (cases_from_all _ _ _ (SlotOk c.args.self.now.words.now) (λ j. SlotOk c.args.self.now.words.now j → ⊥) c.all.ensures.ran (YieldsList-from_range c.args.slots.from c.args.slots.end _ refl refl) (λ x q k. search (rules, tests)) (λ x q k. search (rules, tests, denied)))

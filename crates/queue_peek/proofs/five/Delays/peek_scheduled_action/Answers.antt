@@ -4,4 +4,4 @@ use mathlib.Core.Path.{refl}
 use Rattle.queue_peek.proofs.five.Delays.peek_scheduled_action.Goals as goal
 
 pub returns : goal.returns
-returns c = (search s_filled, refl)
+returns c = (λ rs. search (s_filled, c.least_of_both-self.ensures), refl)

@@ -7,4 +7,4 @@ pub returns-then-words-at-eq0 : goal.returns-then-words-at-eq0
 returns-then-words-at-eq0 c = search action_none
 
 pub returns : goal.returns
-returns c = action_read _ _ _ _ c.requires _ c.slot.ensures.0 _ refl c.if-words-at-eq0.false _ refl
+returns c = λ rs. action_read _ rs _ _ c.requires _ c.slot.ensures.0 _ refl c.if-words-at-eq0.false _ refl

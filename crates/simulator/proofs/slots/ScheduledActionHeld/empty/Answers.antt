@@ -1,0 +1,9 @@
+-- `simulator::slots::ScheduledAction::empty` meets its contract. Assumes nothing.
+use Rattle.simulator.proofs.ActionOutcomes.{emptied_small, emptied_done}
+use Rattle.simulator.proofs.slots.ScheduledActionHeld.empty.Goals as goal
+
+pub slot-j-requires : goal.slot-j-requires
+slot-j-requires c = search emptied_small
+
+pub returns : goal.returns
+returns c = search emptied_done
