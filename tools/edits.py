@@ -118,9 +118,9 @@ class Part:
 
 
 def owned(impl):
-    """Whose functions an impl block holds, as the prover says it: a type's, or those of a type and a trait, as MomentOrd or RefusalFromReason."""
+    """Whose functions an impl block holds, as the prover says it: a type's, or those of a type and a trait, as MomentOrd, RefusalFromReason or CodeTryFromU64."""
     trait, arguments, name = impl.groups()
-    return name + (trait or "") + "".join(re.findall(r"\w+", arguments or ""))
+    return name + (trait or "") + "".join(word[0].upper() + word[1:] for word in re.findall(r"\w+", arguments or ""))
 
 
 def functions_in(file, text):

@@ -1,2 +1,4 @@
+mod Counted
 mod Fields
+mod Found
 mod Slots

@@ -10,7 +10,7 @@ use lib.ListN.{length, get_or, take, drop}
 use borrow.Author.Tests.{ltb-true, ltb-false}
 use Rattle.std.specs.Prelude.{None}
 use Rattle.std.specs.Bool.{MatchBool}
-use Rattle.std.specs.List.{fold, range_with_len, AllWithin, HoldsAt}
+use Rattle.std.specs.List.{fold, sum_by, range_with_len, AllWithin, HoldsAt}
 use Rattle.std.proofs.Common.{length-take, length-drop}
 use Rattle.std.proofs.lemmas.List.{get_or-take, get_or-drop}
 use Rattle.std.proofs.lemmas.List.FromFn.{get_or-range_with_len, length-range_with_len}
@@ -150,8 +150,24 @@ each_decides P a e false m =
     let k : m.0 < e - a = rw length-range_with_len at m.1 in
     fails (λ all. m.2 0 (subst P (sym (get_or-range_with_len a (e - a) m.0 0 k)) (all (a + m.0) (omega arith) (omega arith))))
 
-pub room_turn : (h : List ℕ) (a j sum r : ℕ) → RoomIn h a j sum → (r ≡ held (timer_of h j) + 4 * held (action_of h j)) × (r ≤ 5) → RoomIn h a (j + 1) (sum + r)
-room_turn h a j sum r p e = record { is = omega (arith, p.is, slots_room_more h j, e.0); most = omega (arith, p.most, e.1) }
+-- what slot j keeps in reserve
+abbrev pub kept_at : List ℕ → ℕ → ℕ
+kept_at h j = held (timer_of h j) + 4 * held (action_of h j)
+
+room_turn : (h : List ℕ) (a j sum : ℕ) → RoomIn h a j sum → RoomIn h a (j + 1) (sum + kept_at h j)
+room_turn h a j sum p = record { is = omega (arith, p.is, slots_room_more h j); most = omega (arith, p.most) }
+
+room_from : (h : List ℕ) (a j n sum : ℕ) → RoomIn h a j sum → RoomIn h a (j + n) (fold (λ s x. s + kept_at h x) sum (range_with_len j n))
+room_from h a j zero sum p = let same : j + 0 ≡ j = omega arith in rw same p
+room_from h a j (suc n) sum p =
+    let same : j + suc n ≡ j + 1 + n = omega arith in
+    rw same (room_from h a (j + 1) n (sum + kept_at h j) (room_turn h a j sum p))
+
+-- of the slots from a on, below e
+pub room_all : (h : List ℕ) (a e : ℕ) → a ≤ e → RoomIn h a e (sum_by (kept_at h) (range_with_len a (e - a)))
+room_all h a e l =
+    let same : a + (e - a) ≡ e = omega arith in
+    subst (λ x. RoomIn h a x (sum_by (kept_at h) (range_with_len a (e - a)))) same (room_from h a a (e - a) 0 (record { is = omega arith; most = omega arith }))
 
 -- ---- all slots
 

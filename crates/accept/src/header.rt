@@ -92,6 +92,7 @@ impl Slots {
 }
 
 // The words of a header, to be tested.
+// `queue::Words` lies above this crate, and methods stand in their type's crate, so this is a type of its own.
 #[derive(Clone, Copy)]
 pub struct Header<'a> {
     pub words: &'a [u64; 256],
@@ -107,6 +108,7 @@ impl Header<'_> {
     }
 
     // Whether slot j holds nothing. Most slots do, and such a slot is in order whatever its side's machine count.
+    // j stays a number, here and below: it indexes three arrays, and a type would be unwrapped at each.
     fn slot_empty(&self, j: usize) -> bool
         requires { j < 32 }
         ensures { Decides (SlotEmpty self.now.words.now j) result }
@@ -186,11 +188,7 @@ impl Header<'_> {
     fn slots_room(&self, slots: Slots) -> u64
         ensures { RoomIn self.now.words.now slots.from slots.end result }
     {
-        let mut room: u64 = 0;
-        for j in slots.from..slots.end {
-            room += self.slot_room(j);
-        }
-        room
+        (slots.from..slots.end).map(|j| self.slot_room(j)).sum()
     }
 
     // The records kept in reserve, where the slots are in order: those of the machines alone keep any.

@@ -1,7 +1,7 @@
 // The test of the lent words: which are an accepted state.
 #![tactic(auto)]
 
-ghost use Rattle.std.specs.Prelude.{◌≡◌, ◌≤◌, length};
+ghost use Rattle.std.specs.Prelude.{◌≡◌, ◌≤◌, is_some, length};
 ghost use Rattle.layout.specs.Decides.{Decides};
 ghost use Rattle.layout.specs.Accepted.{SizeOk, Good, Accepted};
 
@@ -18,40 +18,39 @@ pub fn size_ok(n: usize) -> bool
     (260..=262_396).contains(&n) && n % 4 == 0
 }
 
-// Whether a header and the records after it are in order, each for itself and together.
-fn good(head: &Header, rest: &[u64], hints: &mut [u64; 12]) -> bool
+// The last records of the chains, where a header and the records after it are in order, each for itself and together.
+#[tactic(auto, unfolding(crate::specs::Slots::FoundAll))]
+fn good(head: &Header, rest: &[u64]) -> Option<[u64; 12]>
     requires { length rest.now ≤ 262140 }
-    ensures { Decides (Good head.now.words.now rest.now) result }
+    ensures { Decides (Good head.now.words.now rest.now) (is_some result) }
 {
     if !head.limited() {
-        return false;
+        return None;
     }
-    let Some(reserve) = head.test_slots() else {
-        return false;
-    };
-    if !records::chains_ok(head, rest, hints) {
-        return false;
-    }
+    let reserve = head.test_slots()?;
+    let hints = records::chains_ok(head, rest)?;
     let last = (rest.len() / 4) as u64;
-    records::counted(head) == last && last - head.words[25] + reserve <= last
+    if records::counted(head) != last {
+        return None;
+    }
+    (last - head.words[25] + reserve <= last).then_some(hints)
 }
 
-// Whether the lent words are an accepted state. Where they are, the walk of the chains leaves the last record of each in `hints`, 0 for an empty one. It is a
-// hint and nothing is promised of it: the push that follows then need not walk the chain again.
-pub fn accepted_with(block: &[u64], hints: &mut [u64; 12]) -> bool
-    ensures { Decides (Accepted block.now) result }
+// The last record of each chain, 0 for an empty one, where the lent words are an accepted state. These are hints and nothing is promised of them: the push that
+// follows then need not walk the chain again.
+pub fn accepted_with(block: &[u64]) -> Option<[u64; 12]>
+    ensures { Decides (Accepted block.now) (is_some result) }
 {
     if !size_ok(block.len()) {
-        return false;
+        return None;
     }
     let (words, rest) = block.split_first_chunk::<HEADER_WORDS>().unwrap();
-    good(&Header { words }, rest, hints)
+    good(&Header { words }, rest)
 }
 
 // Whether the lent words are an accepted state.
 pub fn accepted(block: &[u64]) -> bool
     ensures { Decides (Accepted block.now) result }
 {
-    let mut hints = [0u64; 12];
-    accepted_with(block, &mut hints)
+    accepted_with(block).is_some()
 }

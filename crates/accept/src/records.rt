@@ -1,5 +1,5 @@
 // The records and their chains: what a record may hold, and what a chain may.
-ghost use Rattle.std.specs.Prelude.{◌≡◌, ℕ, ◌<◌, ◌≤◌, length};
+ghost use Rattle.std.specs.Prelude.{◌≡◌, ℕ, ◌<◌, ◌≤◌, is_some, length};
 ghost use Rattle.layout.specs.Decides.{Decides};
 ghost use Rattle.layout.specs.Records.{KindOk, MachineBound, MachineOk, EventOk, AggregateOk, StampOk, RecordOk, Follows, Chain, ChainsOk, chain_count, counts_to, count_of};
 
@@ -113,11 +113,12 @@ fn follows(k: u64, last_moment: u64, last_rank: u64, moment: u64, rank: u64) -> 
     last_moment < moment || last_rank <= rank
 }
 
-// Whether the records of this chain are linked from its head, of number k and in order, of a side with so many machines. Each word is read once. The last record is noted in
-// `hints`, 0 where the chain has none: nothing is promised of it, a caller that uses it tests it.
-fn chain_ok(rest: &[u64], hints: &mut [u64; 12], k: u64, machines: u64, chain: Entry) -> bool
+// The last record of this chain, 0 where it has none, if its records are linked from its head, of number k and in order, of a side with so many machines. Each
+// word is read once. Nothing is promised of the last record: a caller that uses it tests it.
+// It walks by record numbers: that they are linked is what it tests, so there is no `Linked` yet.
+fn chain_ok(rest: &[u64], k: u64, machines: u64, chain: Entry) -> Option<u64>
     requires { (k < chain_count) × (length rest.now ≤ 262140) }
-    ensures { Decides (Chain rest.now k machines chain.count 0 0 chain.head) result }
+    ensures { Decides (Chain rest.now k machines chain.count 0 0 chain.head) (is_some result) }
 {
     let last = (rest.len() / 4) as u64;
     let mut at = chain.head;
@@ -126,44 +127,42 @@ fn chain_ok(rest: &[u64], hints: &mut [u64; 12], k: u64, machines: u64, chain: E
     let mut tail: u64 = 0;
     for _ in 0..chain.count {
         if at == 0 || last < at {
-            return false;
+            return None;
         }
         let m = words::get(rest, at, 1);
         let tag = words::get(rest, at, 3);
         if !record_ok(k, machines, m, words::get(rest, at, 2), tag) {
-            return false;
+            return None;
         }
         let r = tag::kind(tag);
         if !follows(k, moment, rank, m, r) {
-            return false;
+            return None;
         }
         moment = m;
         rank = r;
         tail = at;
         at = words::get(rest, at, 0);
     }
-    hints[k as usize] = tail;
-    at == 0
+    (at == 0).then_some(tail)
 }
 
-// Whether each chain is in order. A count is held against the number of records before its chain is walked. The last record of each is noted in `hints`.
-pub fn chains_ok(header: &Header, records: &[u64], hints: &mut [u64; 12]) -> bool
+// The last record of each chain, 0 for an empty one, where each is in order. A count is held against the number of records before its chain is walked.
+pub fn chains_ok(header: &Header, records: &[u64]) -> Option<[u64; 12]>
     requires { length records.now ≤ 262140 }
-    ensures { Decides (ChainsOk header.now.words.now records.now) result }
+    ensures { Decides (ChainsOk header.now.words.now records.now) (is_some result) }
 {
+    let mut hints = [0; 12];
     let words = header.words;
     let last = (records.len() / 4) as u64;
     for k in 0..CHAINS {
         let chain = Entry::of(words, k);
         if last < chain.count {
-            return false;
+            return None;
         }
         let machines = words[8 + k / 6];
-        if !chain_ok(records, hints, k as u64, machines, chain) {
-            return false;
-        }
+        hints[k] = chain_ok(records, k as u64, machines, chain)?;
     }
-    true
+    Some(hints)
 }
 
 // The records of all chains, taken together.
@@ -172,9 +171,5 @@ pub fn counted(header: &Header) -> u64
     ensures { result ≡ counts_to header.now.words.now chain_count }
 {
     let words = header.words;
-    let mut sum: u64 = 0;
-    for k in 0..CHAINS {
-        sum += Entry::of(words, k).count;
-    }
-    sum
+    (0..CHAINS).map(|k| Entry::of(words, k).count).sum()
 }

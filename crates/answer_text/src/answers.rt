@@ -1,9 +1,10 @@
-// The answer of a call, as text: a line each. No write to the buffer fails.
+// The answer of a call, as text: a line each.
+ghost use Rattle.std.specs.Prelude.{◌≡◌};
+
 use crate::text::{OrDash, Output, side};
 use event::SimEvent;
 use event::answer::{Answer, Choice, Refusal, Step};
 use std::fmt;
-use std::fmt::Write;
 
 // The event's eight words.
 #[derive(Clone, Copy)]
@@ -34,34 +35,43 @@ impl fmt::Display for Refused {
     }
 }
 
-pub fn told(out: &mut Output<'_>, a: Answer) {
-    let _ = match a {
+// The three that follow share the line of a refusal; one function of them would need three wrappers that print.
+pub fn told(out: &mut Output<'_>, a: Answer)
+    ensures same_reference { out.new.buffer.ghost_name ≡ out.old.buffer.ghost_name }
+{
+    match a {
         Ok(()) => writeln!(out, "ok"),
         Err(r) => writeln!(out, "{}", Refused(r)),
-    };
+    }
 }
 
 // When the packet count falls, or `-`.
-pub fn told_step(out: &mut Output<'_>, a: Step) {
-    let _ = match a {
+pub fn told_step(out: &mut Output<'_>, a: Step)
+    ensures same_reference { out.new.buffer.ghost_name ≡ out.old.buffer.ghost_name }
+{
+    match a {
         Ok(s) => {
             let activity = if s.active { "yes" } else { "no" };
             writeln!(out, "{activity} falls {}", OrDash(s.falls.map(|t| t.0)))
         },
         Err(r) => writeln!(out, "{}", Refused(r)),
-    };
+    }
 }
 
-pub fn told_choice(out: &mut Output<'_>, a: Choice) {
-    let _ = match a {
+pub fn told_choice(out: &mut Output<'_>, a: Choice)
+    ensures same_reference { out.new.buffer.ghost_name ≡ out.old.buffer.ghost_name }
+{
+    match a {
         Ok(c) => match c.event {
             Some(e) => writeln!(out, "event {} rounds {}", Words(e), c.rounds),
             None => writeln!(out, "nothing rounds {}", c.rounds),
         },
         Err(r) => writeln!(out, "{}", Refused(r)),
-    };
+    }
 }
 
-pub fn bad_line(out: &mut Output<'_>, line_number: u64) {
-    let _ = writeln!(out, "bad line {line_number}");
+pub fn bad_line(out: &mut Output<'_>, line_number: u64)
+    ensures same_reference { out.new.buffer.ghost_name ≡ out.old.buffer.ghost_name }
+{
+    writeln!(out, "bad line {line_number}");
 }

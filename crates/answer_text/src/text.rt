@@ -2,11 +2,13 @@
 ghost use Rattle.std.specs.Prelude.{◌≡◌, ◌+◌, ◌<◌, ◌≤◌, ◌++◌, length, take, drop, if◌then◌else◌};
 
 use std::fmt;
+use std::fmt::Write;
 
 // The descriptor of standard output.
 const STDOUT_FILENO: i32 = 1;
 
 // The used bytes of the buffer wait to be written.
+// The buffer is lent by `main`, with how much of it is used: no heap.
 #[derive(Drop)]
 pub struct Output<'a> {
     pub buffer: &'a mut [u8],
@@ -65,11 +67,42 @@ impl<'a> Output<'a> {
         io::write_all(STDOUT_FILENO, self.waiting());
         self.used = 0;
     }
+
+    // What `write!` and `writeln!` call. The text is printed on the stack before it is put: of a writer after an error nothing is known, not even that it
+    // holds the buffer that it held.
+    pub(crate) fn write_fmt<D: fmt::Display + Drop>(&mut self, text: D)
+        ensures same_reference { self.new.buffer.ghost_name ≡ self.old.buffer.ghost_name }
+    {
+        let mut line = Line {
+            bytes: [0; LINE],
+            used: 0,
+        };
+        let _ = line.write_fmt(text);
+        self.put(&line.bytes[..line.used]);
+    }
 }
 
-impl fmt::Write for Output<'_> {
+// More bytes than any line here has.
+const LINE: usize = 256;
+
+// A line, or a part of one, as it is printed.
+#[derive(Clone, Copy)]
+struct Line {
+    bytes: [u8; LINE],
+    used: usize,
+    ghost within: { used ≤ 256 },
+}
+
+impl fmt::Write for Line {
     fn write_str(&mut self, s: &str) -> fmt::Result {
-        self.put(s.as_bytes());
+        let text = s.as_bytes();
+        if text.len() > LINE - self.used {
+            return Err(fmt::Error);
+        }
+        let used = self.used;
+        let end = used + text.len();
+        self.bytes[used..end].copy_from_slice(text);
+        self.used = end;
         Ok(())
     }
 }

@@ -11,7 +11,7 @@ use Rattle.call_line.specs.Words.{Line, is_space, read, without_cr}
 use Rattle.call_line.specs.Numerals.{is_digit}
 use Rattle.call_line.specs.Lines.{is_comment}
 use Rattle.call_line.specs.Held.{start_line, InFirst, InArguments, is_comment_line, At, in_first, in_arguments, Held, comment, plain, first_cr, argument_cr, Sized, Holds, Reads}
-use Rattle.call_line.specs.Steps.{spoilt_of, LateDigit, Joins, placed, PastCR, AtCR, Now, Takes, cr_in_argument, cr_in_first, in_comment, in_line, past_in_argument, past_in_first, past_none}
+use Rattle.call_line.specs.Steps.{spoilt_of, Joins, placed, PastCR, AtCR, Now, Takes, cr_in_argument, cr_in_first, in_comment, in_line, past_in_argument, past_in_first, past_none}
 use Rattle.call_line.specs.declared.line.Line.{Line as Kept}
 use Rattle.call_line.specs.declared.line.Place.TheVariants.{FirstWord, Arguments, Comment, FirstWordCr, ArgumentsCr}
 use Rattle.call_words.specs.declared.shapes.Argument.{Argument}
@@ -153,15 +153,6 @@ past_at p k t name kept other past (comment place _ _) = absurd (other place)
 past_at p k t name kept other past (plain _ here) = past_plain (read p) k t name kept here past
 past_at p k t name kept other past (first_cr q is place i) = past_first_cr p q k t name kept is place i past
 past_at p k t name kept other past (argument_cr q is place i) = past_argument_cr p q k t name kept is place i past
-
--- no word that could be a number has been read where a digit is not read as one
-pub past_late : (k t : Kept) (b : ℕ) → PastCR k t → (k.place ≡ Arguments → is_digit b ≡ false) → t.place ≡ Arguments → LateDigit t b
-past_late k _ b (past_in_argument cr) free place digit = refl
-past_late k _ b (past_in_first cr) free place digit = cc
-past_late k _ b (past_none _ _) free place digit =
-    let z : true ≡ false = sym digit ∙ free place in
-    let n : ◌≡◌ {A = ℕ} 0 1 = cc in
-    absurd (omega arith)
 
 -- ---- a CR
 

@@ -1,3 +1,4 @@
 pub mod Asking
 pub mod Lent
 pub mod Props
+pub mod Session

@@ -48,7 +48,9 @@ impl<'a> Second<'a> {
     }
 
     // The lent words are put. Of what is printed no contract can speak, and `&self` says that the rest stays.
-    pub fn list(&self, out: &mut Output<'_>) {
+    pub fn list(&self, out: &mut Output<'_>)
+        ensures same_reference { out.new.buffer.ghost_name ≡ out.old.buffer.ghost_name }
+    {
         lists::words(out, &self.words[..self.lent]);
     }
 

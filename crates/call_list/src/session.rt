@@ -3,6 +3,7 @@ ghost use Rattle.std.specs.Prelude.{◌≡◌, true, false, length};
 ghost use Rattle.call_line.specs.Held.{start_line};
 ghost use Rattle.call_list.specs.Asking.{leaves_first};
 ghost use Rattle.call_list.specs.Lent.{at_most};
+ghost use Rattle.call_list.specs.Session.{first_words, second_words, first_lent, second_lent, is_known, line_of, line_number, waiting, Holds, HoldsThose};
 
 use crate::second::Second;
 use crate::state::State;
@@ -29,12 +30,12 @@ pub struct Session<'a> {
 impl<'a> Session<'a> {
     // At the start of a list, on these two blocks. Answers wait in `out`.
     pub fn new(state: &'a mut [u64], second: &'a mut [u64], out: &'a mut [u8]) -> Session<'a>
-        ensures known { result.state.known ≡ false }
-        ensures used { result.out.used ≡ 0 }
-        ensures line { (result.line ≡ start_line) × (result.number ≡ 1) }
-        ensures words { (result.state.words.now ≡ state.entry.now) × (result.second.words.now ≡ second.entry.now) }
-        ensures lent { (result.state.lent ≡ at_most 8192 (length state.entry.now)) × (result.second.lent ≡ at_most 8192 (length second.entry.now)) }
-        ensures same_references { (result.state.words.ghost_name ≡ state.entry.ghost_name) × (result.second.words.ghost_name ≡ second.entry.ghost_name) }
+        ensures known { is_known result ≡ false }
+        ensures used { waiting result ≡ 0 }
+        ensures line { (line_of result ≡ start_line) × (line_number result ≡ 1) }
+        ensures words { (first_words result ≡ state.entry.now) × (second_words result ≡ second.entry.now) }
+        ensures lent { (first_lent result ≡ at_most 8192 (length state.entry.now)) × (second_lent result ≡ at_most 8192 (length second.entry.now)) }
+        ensures same_references { Holds result state.entry second.entry out.entry }
     {
         Session {
             state: State::new(state),
@@ -48,7 +49,7 @@ impl<'a> Session<'a> {
 
     // One piece of the list.
     pub fn scan(&mut self, input: &[u8])
-        ensures same_references { (self.new.state.words.ghost_name ≡ self.old.state.words.ghost_name) × (self.new.second.words.ghost_name ≡ self.old.second.words.ghost_name) }
+        ensures same_references { HoldsThose self.new self.old }
     {
         let mut line = self.line;
         for b in input {
@@ -66,16 +67,16 @@ impl<'a> Session<'a> {
 
     // The answers that wait are written.
     pub fn flush(&mut self)
-        ensures used { self.new.out.used ≡ 0 }
-        ensures words { (self.new.state.words.now ≡ self.old.state.words.now) × (self.new.second.words.now ≡ self.old.second.words.now) }
-        ensures same_references { (self.new.state.words.ghost_name ≡ self.old.state.words.ghost_name) × (self.new.second.words.ghost_name ≡ self.old.second.words.ghost_name) }
+        ensures used { waiting self.new ≡ 0 }
+        ensures words { (first_words self.new ≡ first_words self.old) × (second_words self.new ≡ second_words self.old) }
+        ensures same_references { HoldsThose self.new self.old }
     {
         self.out.flush();
     }
 
     // The line ends here.
     fn end(&mut self, line: Line)
-        ensures same_references { (self.new.state.words.ghost_name ≡ self.old.state.words.ghost_name) × (self.new.second.words.ghost_name ≡ self.old.second.words.ghost_name) }
+        ensures same_references { HoldsThose self.new self.old }
     {
         match line.asked(&mut self.words) {
             Ok(None) => {},
@@ -87,8 +88,8 @@ impl<'a> Session<'a> {
 
     // What a line asked for is done, and its answer put. A line that lists, or is about the second block alone, leaves the first block.
     fn answered(&mut self, asked: Asked)
-        ensures leaves { leaves_first asked ≡ true → self.new.state.words.now ≡ self.old.state.words.now }
-        ensures same_references { (self.new.state.words.ghost_name ≡ self.old.state.words.ghost_name) × (self.new.second.words.ghost_name ≡ self.old.second.words.ghost_name) }
+        ensures leaves { leaves_first asked ≡ true → first_words self.new ≡ first_words self.old }
+        ensures same_references { HoldsThose self.new self.old }
     {
         let answer = match asked {
             Asked::Make(call) => return self.made(call),
@@ -123,7 +124,7 @@ impl<'a> Session<'a> {
 
     // A call on the state.
     fn made(&mut self, call: Call)
-        ensures same_references { (self.new.state.words.ghost_name ≡ self.old.state.words.ghost_name) × (self.new.second.words.ghost_name ≡ self.old.second.words.ghost_name) }
+        ensures same_references { HoldsThose self.new self.old }
     {
         let answer = match call {
             Call::Push(e) => self.state.push(e),

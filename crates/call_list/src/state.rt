@@ -27,6 +27,7 @@ pub struct State<'a> {
     // as many are lent to the calls
     pub lent: usize,
     // whether these are known to be an accepted state, so that no call needs to test them
+    // (a flag beside the hints, not an Option of them: the calls are lent the hints by `&mut` and would take them apart each time)
     pub known: bool,
     // the last records of the chains, from call to call, of which nothing is promised
     pub hints: [u64; 12],
@@ -69,11 +70,15 @@ impl<'a> State<'a> {
     }
 
     // The state that the lent words are, and the words, are put. Of what is printed no contract can speak, and `&self` says that the rest stays.
-    pub fn show(&self, out: &mut Output<'_>) {
+    pub fn show(&self, out: &mut Output<'_>)
+        ensures same_reference { out.new.buffer.ghost_name ≡ out.old.buffer.ghost_name }
+    {
         lists::show(out, &self.words[..self.lent]);
     }
 
-    pub fn list(&self, out: &mut Output<'_>) {
+    pub fn list(&self, out: &mut Output<'_>)
+        ensures same_reference { out.new.buffer.ghost_name ≡ out.old.buffer.ghost_name }
+    {
         lists::words(out, &self.words[..self.lent]);
     }
 
@@ -122,10 +127,10 @@ impl<'a> State<'a> {
     // ---- the calls on accepted words, which leave such
 
     // Number 1 or 2 of the lent words.
-    fn number(&self, hints: &mut [u64; 12]) -> Result<(), Reason>
+    fn number(&self) -> Result<[u64; 12], Reason>
         ensures { Lent (take self.now.lent self.now.words.now) (refused_with result) }
     {
-        simulator::admit::lent(&self.words[..self.lent], hints)
+        simulator::admit::lent(&self.words[..self.lent])
     }
 
     // The refusal of any call where the lent words have such a number. Words that are known to be accepted are not tested again.
@@ -135,10 +140,7 @@ impl<'a> State<'a> {
         ensures same_reference { self.new.words.ghost_name ≡ self.old.words.ghost_name }
     {
         if !self.known {
-            let mut hints = self.hints;
-            let number = self.number(&mut hints);
-            self.hints = hints;
-            number?;
+            self.hints = self.number()?;
             self.known = true;
         }
         Ok(())

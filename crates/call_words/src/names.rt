@@ -1,7 +1,6 @@
 // Which line a first word names.
 ghost use Rattle.std.specs.Prelude.{◌≡◌};
-ghost use Rattle.call_words.specs.Text.{same};
-ghost use Rattle.call_words.specs.Names.{named as name_of, named_slot, named_words, named_second};
+ghost use Rattle.call_words.specs.Names.{named as name_of};
 
 // One of the program's two blocks.
 #[derive(Clone, Copy, PartialEq, Eq)]
@@ -28,65 +27,37 @@ pub enum Name {
     Pack,
 }
 
-// Whether the letters are those of the text.
-#[tactic(auto, using(crate::proofs::PairLaws::same_text))]
-fn spells(letters: &[u8], text: &[u8]) -> bool
-    ensures { result ≡ same letters.now text.now }
-{
-    letters == text
-}
+// The first word of each line, and what it names.
+const NAMES: [(&[u8], Name); 17] = [
+    (b"push", Name::Push),
+    (b"pick_next", Name::PickNext),
+    (b"sim_network_stack", Name::SimNetworkStack),
+    (b"show", Name::Show),
+    (b"set_action", Name::SetAction),
+    (b"clear_action", Name::ClearAction),
+    (b"set_timer", Name::SetTimer),
+    (b"clear_timer", Name::ClearTimer),
+    (b"open", Name::Open),
+    (b"lend", Name::Lend(Block::First)),
+    (b"word", Name::Word(Block::First)),
+    (b"words", Name::Words(Block::First)),
+    (b"pack", Name::Pack),
+    (b"lend_second", Name::Lend(Block::Second)),
+    (b"word_second", Name::Word(Block::Second)),
+    (b"words_second", Name::Words(Block::Second)),
+    (b"take_second", Name::TakeSecond),
+];
 
 // The line that these letters name, where they name one.
-// Four functions pass on to one another, as the four parts of the definition do: one would have seventeen arms.
-#[tactic(auto, unfolding(crate::specs::Names::named))]
+// A table and no `match` over byte strings: that goes byte by byte, and 22 of its answers were open after six minutes.
 pub(crate) fn named(letters: &[u8]) -> Option<Name>
     ensures { result ≡ name_of letters.now }
 {
-    match letters {
-        _ if spells(letters, b"push") => Some(Name::Push),
-        _ if spells(letters, b"pick_next") => Some(Name::PickNext),
-        _ if spells(letters, b"sim_network_stack") => Some(Name::SimNetworkStack),
-        _ if spells(letters, b"show") => Some(Name::Show),
-        _ => named_slot(letters),
+    for row in &NAMES {
+        let (text, name) = *row;
+        if letters == text {
+            return Some(name);
+        }
     }
-}
-
-#[tactic(auto, unfolding(crate::specs::Names::named_slot))]
-fn named_slot(letters: &[u8]) -> Option<Name>
-    ensures { result ≡ named_slot letters.now }
-{
-    match letters {
-        _ if spells(letters, b"set_action") => Some(Name::SetAction),
-        _ if spells(letters, b"clear_action") => Some(Name::ClearAction),
-        _ if spells(letters, b"set_timer") => Some(Name::SetTimer),
-        _ if spells(letters, b"clear_timer") => Some(Name::ClearTimer),
-        _ => named_words(letters),
-    }
-}
-
-#[tactic(auto, unfolding(crate::specs::Names::named_words))]
-fn named_words(letters: &[u8]) -> Option<Name>
-    ensures { result ≡ named_words letters.now }
-{
-    match letters {
-        _ if spells(letters, b"open") => Some(Name::Open),
-        _ if spells(letters, b"lend") => Some(Name::Lend(Block::First)),
-        _ if spells(letters, b"word") => Some(Name::Word(Block::First)),
-        _ if spells(letters, b"words") => Some(Name::Words(Block::First)),
-        _ => named_second(letters),
-    }
-}
-
-#[tactic(auto, unfolding(crate::specs::Names::named_second))]
-fn named_second(letters: &[u8]) -> Option<Name>
-    ensures { result ≡ named_second letters.now }
-{
-    match letters {
-        _ if spells(letters, b"pack") => Some(Name::Pack),
-        _ if spells(letters, b"lend_second") => Some(Name::Lend(Block::Second)),
-        _ if spells(letters, b"word_second") => Some(Name::Word(Block::Second)),
-        _ if spells(letters, b"words_second") => Some(Name::Words(Block::Second)),
-        _ if spells(letters, b"take_second") => Some(Name::TakeSecond),
-        _ => None,
-    }
+    None
 }

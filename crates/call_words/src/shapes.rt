@@ -17,6 +17,7 @@ pub enum Form {
 }
 
 // An argument: a number's value, 1 for the client, else 0.
+// Form and value stand side by side: what may stand where is asked of the form alone, and most forms have no value.
 #[derive(Clone, Copy, PartialEq, Eq)]
 pub struct Argument {
     pub form: Form,

@@ -237,16 +237,16 @@ refused_words (sim_network_stack t e) n = refl
 
 -- words that are refused are refused by every row
 pub bad_made :
-    (w rows : List ℕ) (i last : ℕ) (x : Reason) (r : Result Unit Reason) (words : List ℕ) → Lent w (refused_with r) → r ≡ Err x → {k : ℕ} → k ≡ number_of x
+    {A : Type 0} (w rows : List ℕ) (i last : ℕ) (x : Reason) (r : Result A Reason) (words : List ℕ) → Lent w (refused_with r) → r ≡ Err x → {k : ℕ} → k ≡ number_of x
     → words ≡ k ∷ zeros 15 → RowMade w rows i last words w
 unfolding row_calls
-bad_made w rows i last x r words lent er {k} ek ew = go (is_turn (code_at rows i)) refl
+bad_made {A} w rows i last x r words lent er {k} ek ew = go (is_turn (code_at rows i)) refl
   where
     e : words ≡ number_of x ∷ zeros 15
     e = ew ∙ ap (λ (y : ℕ). y ∷ zeros 15) ek
 
     l : Lent w (some (number_of x))
-    l = subst (λ (y : Result Unit Reason). Lent w (refused_with y)) er lent
+    l = subst (λ (y : Result A Reason). Lent w (refused_with y)) er lent
 
     go : (b : Bool) → is_turn (code_at rows i) ≡ b → RowMade w rows i last words w
     go true z =

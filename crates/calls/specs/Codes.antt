@@ -1,9 +1,10 @@
 -- A row of a list: its twelve words, and what the first is read as: codes 0 to 6 are calls, 7 is a turn. Assumes nothing.
-use Rattle.std.specs.Prelude.{ℕ, ◌+◌, ◌<◌, ◌≡◌, false, List, ltb, get_or, Option, Some, None}
+use Rattle.std.specs.Prelude.{ℕ, ◌+◌, ◌<◌, ◌≡◌, false, List, ltb, get_or, Result, Ok, Err}
 use Rattle.rules.specs.Arguments.{EventIn}
 use Rattle.calls.specs.declared.row.CallCode.{CallCode}
 use Rattle.calls.specs.declared.row.CallCode.TheVariants.{Push, SetAction, ClearAction, SetTimer, ClearTimer, PickNext, SimNetworkStack}
 use Rattle.calls.specs.declared.row.Code.{Code}
+use Rattle.calls.specs.declared.row.NoCode.{NoCode}
 use Rattle.calls.specs.declared.row.Code.TheVariants.{Call, Turn}
 use Rattle.calls.specs.Told.{event_for}
 use Rattle.calls.specs.Rows.{is_row, word_at}
@@ -22,13 +23,13 @@ code_no (Call c) = call_no c
 code_no Turn = 7
 
 -- a word that is no call's is read as none, and one that is no row's
-abbrev pub CallReadAs : ℕ → Option CallCode → Type 0
-CallReadAs word None = ltb word 7 ≡ false
-CallReadAs word (Some c) = word ≡ call_no c
+abbrev pub CallReadAs : ℕ → Result CallCode NoCode → Type 0
+CallReadAs word (Err e) = ltb word 7 ≡ false
+CallReadAs word (Ok c) = word ≡ call_no c
 
-abbrev pub ReadAs : ℕ → Option Code → Type 0
-ReadAs word None = is_row word ≡ false
-ReadAs word (Some c) = word ≡ code_no c
+abbrev pub ReadAs : ℕ → Result Code NoCode → Type 0
+ReadAs word (Err e) = is_row word ≡ false
+ReadAs word (Ok c) = word ≡ code_no c
 
 -- ---- the words of a row
 

@@ -14,7 +14,7 @@ fn make_row(
     block: &mut [u64],
     hints: &mut [u64; 12],
     row: &Row<'_>,
-    tested: Result<(), Reason>,
+    tested: Result<[u64; 12], Reason>,
     last: u64,
 ) -> [u64; 16]
     requires { Lent block.old (refused_with tested) }
@@ -40,12 +40,13 @@ fn store(out: &mut [u64], at: usize, words: [u64; 16])
 }
 
 // The rows, one by one. Answers how many were made.
+// By the number of the row: the promise speaks of row `at` and of the words that are its answer's place.
 fn make_rows(
     block: &mut [u64],
     hints: &mut [u64; 12],
     rows: &[u64],
     out: &mut [u64],
-    tested: Result<(), Reason>,
+    tested: Result<[u64; 12], Reason>,
 ) -> u64
     requires { Lent block.old (refused_with tested) }
     ensures { Listed block.old rows.now out.old result block.new out.new }
@@ -71,7 +72,7 @@ fn make_rows(
 pub fn calls(block: &mut [u64], rows: &[u64], out: &mut [u64]) -> u64
     ensures { Listed block.old rows.now out.old result block.new out.new }
 {
-    let mut hints = [0u64; 12];
-    let tested = simulator::admit::lent(block, &mut hints);
+    let tested = simulator::admit::lent(block);
+    let mut hints = tested.unwrap_or([0; 12]);
     make_rows(block, &mut hints, rows, out, tested)
 }

@@ -38,31 +38,39 @@ pub enum Code {
     Turn,
 }
 
-impl CallCode {
-    fn from_word(word: u64) -> Option<CallCode>
-        ensures { CallReadAs word result }
-    {
+// A word that names none.
+#[derive(Clone, Copy)]
+pub struct NoCode;
+
+impl TryFrom<u64> for CallCode {
+    type Error = NoCode;
+
+    ghost try_from_gives = { CallReadAs };
+
+    fn try_from(word: u64) -> Result<Self, NoCode> {
         match word {
-            0 => Some(CallCode::Push),
-            1 => Some(CallCode::SetAction),
-            2 => Some(CallCode::ClearAction),
-            3 => Some(CallCode::SetTimer),
-            4 => Some(CallCode::ClearTimer),
-            5 => Some(CallCode::PickNext),
-            6 => Some(CallCode::SimNetworkStack),
-            _ => None,
+            0 => Ok(CallCode::Push),
+            1 => Ok(CallCode::SetAction),
+            2 => Ok(CallCode::ClearAction),
+            3 => Ok(CallCode::SetTimer),
+            4 => Ok(CallCode::ClearTimer),
+            5 => Ok(CallCode::PickNext),
+            6 => Ok(CallCode::SimNetworkStack),
+            _ => Err(NoCode),
         }
     }
 }
 
-impl Code {
-    // By a row's first word.
-    pub fn from_word(word: u64) -> Option<Code>
-        ensures { ReadAs word result }
-    {
+// By a row's first word.
+impl TryFrom<u64> for Code {
+    type Error = NoCode;
+
+    ghost try_from_gives = { ReadAs };
+
+    fn try_from(word: u64) -> Result<Self, NoCode> {
         match word {
-            7 => Some(Code::Turn),
-            _ => Some(Code::Call(CallCode::from_word(word)?)),
+            7 => Ok(Code::Turn),
+            _ => Ok(Code::Call(CallCode::try_from(word)?)),
         }
     }
 }
@@ -70,6 +78,7 @@ impl Code {
 // ---- the answers, in sixteen words
 
 // An answer that is a number alone.
+// The four rows, here and in turn.rt, show their words in their places, as docs/CALLS.md numbers them.
 pub fn number_words(n: u64) -> [u64; 16]
     ensures { result ≡ n ∷ zeros 15 }
 {
@@ -118,7 +127,7 @@ impl<'a> Row<'a> {
     pub fn read(words: &'a [u64; 12]) -> Option<Row<'a>>
         ensures { MatchOption result (is_row (word_in words.now 0) ≡ false) (λ r. r.words.now ≡ words.now) }
     {
-        let code = Code::from_word(words[0])?;
+        let code = Code::try_from(words[0]).ok()?;
         Some(Row { code, words })
     }
 }
@@ -170,6 +179,7 @@ impl Row<'_> {
         Timer(Moment(self.words[3]))
     }
 
+    // Of an accepted block, as in all that write: a struct that holds a block by `&mut` would need a clause about its reference instead.
     fn push_sim(&self, block: &mut [u64], hints: &mut [u64; 12]) -> Answer
         requires { Accepted block.old }
         ensures { Outcome block.old (push (event_from_words self.now.words.now 1)) (answer_of result) block.new }

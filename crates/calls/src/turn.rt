@@ -11,6 +11,7 @@ use event::answer::{Choice, Step};
 use moment::Moment;
 
 // Where a choice's answer has them: 1 for an event, its kind, its moment, its side.
+// Read back from the answer's words: the definitions (`ends_with`, `last_with`) speak of these, as docs/ does of the list call.
 const CHOSEN: usize = 1;
 
 const KIND: usize = 3;
@@ -40,27 +41,21 @@ pub fn turn(block: &mut [u64], hints: &mut [u64; 12], time: Moment) -> [u64; 16]
     ensures { TurnMade block.old time.0 result block.new }
 {
     let a = simulator::choice::pick_next_on(block, hints, time);
-    match a {
-        Ok(c) => match c.event {
-            Some(e) => {
-                let b = simulator::step::sim_network_stack_on(block, hints, e, e.moment);
-                turn_row(a, b)
-            }
-            None => row::choice_row(a),
-        },
-        Err(_) => row::choice_row(a),
-    }
+    let Ok(c) = a else {
+        return row::choice_row(a);
+    };
+    let Some(e) = c.event else {
+        return row::choice_row(a);
+    };
+    let b = simulator::step::sim_network_stack_on(block, hints, e, e.moment);
+    turn_row(a, b)
 }
 
 // Bit k of n.
 fn bit(n: u64, k: u64) -> bool
     ensures { result ≡ bit_of n k }
 {
-    let mut rest = n;
-    for _ in 0..k {
-        rest /= 2;
-    }
-    rest % 2 == 1
+    k < 64 && (n >> k) % 2 == 1
 }
 
 // Whether the list ends after a turn of this answer: it is refused, gives no event, or one that is watched.

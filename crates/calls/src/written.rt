@@ -24,6 +24,7 @@ fn event_words(e: SimEvent, rounds: u64) -> [u64; 10]
 }
 
 // The ten words of a choice.
+// A match within a match: as one pattern each case takes six lines.
 pub fn choice_words(a: Choice) -> [u64; 10]
     ensures { result ≡ choice_words (choice_of a) }
 {

@@ -1,6 +1,6 @@
 -- The sums of an action, and of each case. Assumes nothing.
 use Prim.Native.Nat.{ℕ, zero, suc, ◌+◌, ◌*◌, ◌^◌, ◌<◌, ◌≤◌}
-use mathlib.Core.Path.{◌≡◌, refl, sym, ap, ap₂, subst, subst⁻¹, ◌∙◌}
+use mathlib.Core.Path.{◌≡◌, refl, sym, ap, subst, subst⁻¹, ◌∙◌}
 use mathlib.Core.Bool.{Bool, true, false, not, ◌&&◌}
 use mathlib.Core.List.{List, [], ◌∷◌}
 use mathlib.Core.Option as RulesOption
@@ -26,29 +26,17 @@ use Rattle.queue_peek.specs.Decoded.{block_from}
 use Rattle.moment.specs.declared.Length.{Length}
 use Rattle.delay.specs.Tests.{delayed_of}
 use Rattle.layout.proofs.Banks.{bank_at}
+use Rattle.queue.proofs.ViewLaws.{action_within, reporting_within, action_held, reporting_held}
+use Rattle.queue.proofs.SlotLaws.{side_few, planned_in, planned_in_lem}
 use Rattle.queue_peek.proofs.BlockLaws.{end_small}
 use Rattle.candidate.specs.declared.Due.{Due}
 use Rattle.candidate.specs.declared.Planned.{Planned}
 use Rattle.candidate.specs.declared.Candidate.{Candidate}
 use Rattle.candidate.specs.declared.Candidate.TheVariants.{Aggregate as AnAggregate, Block as ABlock, Event as AnEvent, Timer as ATimer, Action as AnAction}
 use Rattle.candidate.specs.Candidates.{action_value, candidate_of, held_up_at, Stands, Reckoned}
-use Rattle.candidate.specs.Promises.{planned_in}
-use Rattle.candidate.proofs.SlotLaws.{side_small}
 use Rattle.candidate.proofs.AheadLaws.{moment_small}
-use Rattle.candidate.proofs.PlannedLaws.{planned_in_lem}
-use Rattle.candidate.proofs.SumLaws.{action_within, reporting_within, action_held, reporting_held}
 
 -- ---- both delays
-
-module _ (h : List ℕ) (b : Bool) (v w : ℕ) (ev : v ≡ get_or h (4 + side_no (side_of b)) 0) (ew : w ≡ get_or h (6 + side_no (side_of b)) 0) where
-  pub delays_fit : (rs : List ℕ) → (side_held h rs b).fixed.action_delay + (side_held h rs b).fixed.reporting_delay < 2 ^ 64 → v + w < 2 ^ 64
-  delays_fit rs l = omega (arith, l, ev, ew, action_held h rs b, reporting_held h rs b)
-
-  pub delays_within : (n : ℕ) → n ≡ v + w → Limited h → n ≤ duration_limit + duration_limit
-  delays_within n e l = omega (arith, action_within h b v l ev, reporting_within h b w l ew)
-
-  pub delays_held : (n : ℕ) → n ≡ v + w → (rs : List ℕ) → n ≡ (side_held h rs b).fixed.action_delay + (side_held h rs b).fixed.reporting_delay
-  delays_held n e rs = e ∙ ap₂ ◌+◌ (ev ∙ sym (action_held h rs b)) (ew ∙ sym (reporting_held h rs b))
 
 pub delays_small : (h rs : List ℕ) (b : Bool) → Limited h → (side_held h rs b).fixed.action_delay + (side_held h rs b).fixed.reporting_delay < 2 ^ 64
 delays_small h rs b l = omega (arith, action_within h b _ l (action_held h rs b), reporting_within h b _ l (reporting_held h rs b))
@@ -103,8 +91,8 @@ module _ (h : List ℕ) (g : SlotsOk h) (b : Bool) (i : ℕ) (l : i < 16) where
   duration_small : bank 96 96 h (2 + 3 * (16 * side_no (side_of b) + i)) ≤ duration_limit
   duration_small =
       let e : bank 96 96 h (2 + 3 * (16 * side_no (side_of b) + i)) ≡ get_or h (98 + 3 * (16 * side_no (side_of b) + i)) 0
-      = bank_at 96 96 h (2 + 3 * (16 * side_no (side_of b) + i)) (omega (arith, side_small b)) ∙ ap (λ k. get_or h k 0) (omega arith) in
-      subst (λ k. k ≤ duration_limit) (sym e) (g (16 * side_no (side_of b) + i) (omega (arith, side_small b))).action.durations
+      = bank_at 96 96 h (2 + 3 * (16 * side_no (side_of b) + i)) (omega (arith, side_few b)) ∙ ap (λ k. get_or h k 0) (omega arith) in
+      subst (λ k. k ≤ duration_limit) (sym e) (g (16 * side_no (side_of b) + i) (omega (arith, side_few b))).action.durations
 
   planned_within : Within (planned_in h b i)
   unfolding planned_in
@@ -115,7 +103,7 @@ module _ (h rs : List ℕ) (c : Candidate) (g : SlotsOk h) (s : Stands h rs c) w
   unfolding Stands
   planned_held p e =
       let q : Stands h rs (AnAction p) = subst (Stands h rs) e s in
-      subst Within (sym (planned_in_lem h rs p.client p.machine p.known) ∙ q.0) (planned_within h g p.client p.machine p.known)
+      subst Within (sym (planned_in_lem h rs p.slot.client p.slot.machine p.slot.known) ∙ q.0) (planned_within h g p.slot.client p.slot.machine p.slot.known)
 
   pub stands_moment : (p : Planned) → c ≡ AnAction p → p.action.moment.0 ≤ moment_limit
   unfolding Within
@@ -149,7 +137,7 @@ module _ (h : List ℕ) (t : ℕ) (c : Candidate) where
     unfolding candidate_of Reckoned
     case_block k by e f = told (ABlock k by) e r f
 
-    pub case_action : (p : Planned) → c ≡ AnAction p → ((ws : List ℕ) → r ≡ fits (action_sums (action_value p.action).kind (side_held h ws p.client) (action_value p.action))) → (rs : List ℕ) → Reckoned h rs t c → Sums c r rs
+    pub case_action : (p : Planned) → c ≡ AnAction p → ((ws : List ℕ) → r ≡ fits (action_sums (action_value p.action).kind (side_held h ws p.slot.client) (action_value p.action))) → (rs : List ℕ) → Reckoned h rs t c → Sums c r rs
     unfolding candidate_of
     case_action p e f = told (AnAction p) e r (λ rs q. f rs)
 

@@ -2,7 +2,7 @@
 use Prim.Native.Nat.{ℕ, zero, suc, ◌+◌, ◌-◌, ◌*◌, ◌<◌, ◌≤◌}
 use mathlib.Core.Path.{◌≡◌, refl, sym, ap, subst, ◌∙◌}
 use mathlib.Core.Bool.{Bool, true, false}
-use mathlib.Core.List.{List, ◌∷◌, map as map_list}
+use mathlib.Core.List.{List}
 use mathlib.Core.Option.{Option as RulesOption, none, some, map}
 use native.Mathlib.Omega.{arith}
 use lib.Dec.{leb}
@@ -22,28 +22,8 @@ use Rattle.queue.specs.Heads.{side_held}
 use Rattle.queue_peek.specs.declared.five.Delays.{Delays}
 use Rattle.queue_peek.specs.Decoded.{delay_of, delays_of}
 use Rattle.layout.proofs.Banks.{bank_at}
-use Rattle.candidate.specs.Promises.{planned_in, Ahead}
-use Rattle.candidate.proofs.SlotLaws.{side_small, actions_are}
-
--- the moments of a side's slots, from their words
-timer_in : List ℕ → Bool → ℕ → RulesOption ℕ
-timer_in h client i = less_one (bank 64 32 h (16 * side_no (side_of client) + i))
-
-moment_in : List ℕ → Bool → ℕ → RulesOption ℕ
-moment_in h client i = map (λ (a : Action). a.moment) (planned_in h client i)
-
-timers_are : (h rs : List ℕ) (b : Bool) → (side_held h rs b).timers ≡ firsts 16 (timer_in h b)
-unfolding state_from timer_in
-timers_are h rs true = refl
-timers_are h rs false = refl
-
-map_firsts : {A B : Type 0} (g : A → B) (n : ℕ) (f : ℕ → A) → map_list g (firsts n f) ≡ firsts n (λ i. g (f i))
-map_firsts g zero f = refl
-map_firsts g (suc n) f = ap (λ l. g (f 0) ∷ l) (map_firsts g n (λ i. f (suc i)))
-
-moments_are : (h rs : List ℕ) (b : Bool) → action_moments (side_held h rs b) ≡ firsts 16 (moment_in h b)
-unfolding moment_in
-moments_are h rs b = ap (map_list (map (λ (a : Action). a.moment))) (actions_are h rs b) ∙ map_firsts (map (λ (a : Action). a.moment)) 16 (planned_in h b)
+use Rattle.queue.proofs.SlotLaws.{side_few, timer_in, planned_in, moment_in, timers_are, moments_are}
+use Rattle.candidate.specs.Promises.{Ahead}
 
 -- a slot's moment is within the limit
 Small : RulesOption ℕ → Type 0
@@ -88,13 +68,13 @@ module _ (h : List ℕ) (g : SlotsOk h) (b : Bool) (i : ℕ) (l : i < 16) where
   unfolding timer_in
   timer_small =
       small_word (bank 64 32 h (16 * side_no (side_of b) + i))
-      (rw (bank_at 64 32 h (16 * side_no (side_of b) + i) (omega (arith, side_small b))) (g (16 * side_no (side_of b) + i) (omega (arith, side_small b))).timer)
+      (rw (bank_at 64 32 h (16 * side_no (side_of b) + i) (omega (arith, side_few b))) (g (16 * side_no (side_of b) + i) (omega (arith, side_few b))).timer)
 
   pub moment_small : bank 96 96 h (1 + 3 * (16 * side_no (side_of b) + i)) ≤ moment_limit
   moment_small =
       let e : bank 96 96 h (1 + 3 * (16 * side_no (side_of b) + i)) ≡ get_or h (97 + 3 * (16 * side_no (side_of b) + i)) 0
-      = bank_at 96 96 h (1 + 3 * (16 * side_no (side_of b) + i)) (omega (arith, side_small b)) ∙ ap (λ k. get_or h k 0) (omega arith) in
-      subst (λ k. k ≤ moment_limit) (sym e) (g (16 * side_no (side_of b) + i) (omega (arith, side_small b))).action.moments
+      = bank_at 96 96 h (1 + 3 * (16 * side_no (side_of b) + i)) (omega (arith, side_few b)) ∙ ap (λ k. get_or h k 0) (omega arith) in
+      subst (λ k. k ≤ moment_limit) (sym e) (g (16 * side_no (side_of b) + i) (omega (arith, side_few b))).action.moments
 
   action_small : Small (moment_in h b i)
   unfolding moment_in planned_in

@@ -1,6 +1,6 @@
 -- The tests of a round, and the first that fits. Assumes nothing.
 use Prim.Native.Nat.{ℕ, ◌+◌}
-use mathlib.Core.Path.{◌≡◌, sym, ap, subst⁻¹, ◌∙◌}
+use mathlib.Core.Path.{◌≡◌, refl, sym, ap, subst⁻¹, ◌∙◌}
 use mathlib.Core.Bool.{Bool, true, false, ◌&&◌}
 use mathlib.Core.List.{List, head?}
 use mathlib.Core.Option.{Option as RulesOption, none, some}
@@ -14,6 +14,7 @@ use Rattle.layout.specs.Layout.{state_from}
 use Rattle.queue.specs.declared.view.Words.{Words}
 use Rattle.queue.specs.Views.{state_in}
 use Rattle.queue.specs.Heads.{PeekedBothIn}
+use Rattle.moment.specs.declared.Length.{Length}
 use Rattle.queue_peek.specs.declared.five.Delays.{Delays}
 use Rattle.queue_peek.specs.Decoded.{delay_of, delays_of}
 use Rattle.candidate.specs.declared.Candidate.{Candidate}
@@ -24,18 +25,33 @@ use Rattle.candidate.proofs.PickLaws.{moved}
 
 -- ---- the tests
 
-module _ (d : Delays) (x y z w : Bool) where
-  pub aggregate_goes : x ≡ (delay_of d.n ≤ᵈ delay_of d.s) → y ≡ (delay_of d.n ≤ᵈ delay_of d.i) → z ≡ (delay_of d.n ≤ᵈ delay_of d.b) → w ≡ (delay_of d.n ≤ᵈ delay_of d.q) → (((x && y) && z) && w) ≡ aggregate_first (delays_of d)
-  unfolding delays_of
-  aggregate_goes ex ey ez ew = λ i. (((ex i && ey i) && ez i) && ew i)
+-- a && b, where b is asked, and where it is not
+module _ (a x y : Bool) (ex : a ≡ x) where
+  pub both_then : (b : Bool) → a ≡ true → b ≡ y → b ≡ (x && y)
+  both_then b e ey = ey ∙ ap (λ i. i && y) (sym e ∙ ex)
 
-  pub block_goes : x ≡ (delay_of d.b ≤ᵈ delay_of d.s) → y ≡ (delay_of d.b ≤ᵈ delay_of d.i) → z ≡ (delay_of d.b ≤ᵈ delay_of d.q) → ((x && y) && z) ≡ block_first (delays_of d)
-  unfolding delays_of
-  block_goes ex ey ez = λ i. ((ex i && ey i) && ez i)
+  pub both_else : a ≡ false → a ≡ (x && y)
+  both_else e = e ∙ ap (λ i. i && y) (sym e ∙ ex)
 
-  pub event_goes : x ≡ (delay_of d.q ≤ᵈ delay_of d.s) → y ≡ (delay_of d.q ≤ᵈ delay_of d.i) → (x && y) ≡ event_first (delays_of d)
+module _ (d : Delays) where
+  -- a delay is not above the first two of the rest, or the first three
+  abbrev pub before_two : Option Length → Bool
+  before_two l = (delay_of l ≤ᵈ delay_of d.s) && (delay_of l ≤ᵈ delay_of d.i)
+
+  abbrev pub before_three : Option Length → Bool
+  before_three l = before_two l && (delay_of l ≤ᵈ delay_of d.b)
+
+  pub aggregate_goes : (before_three d.n && (delay_of d.n ≤ᵈ delay_of d.q)) ≡ aggregate_first (delays_of d)
   unfolding delays_of
-  event_goes ex ey = λ i. (ex i && ey i)
+  aggregate_goes = refl
+
+  pub block_goes : (before_two d.b && (delay_of d.b ≤ᵈ delay_of d.q)) ≡ block_first (delays_of d)
+  unfolding delays_of
+  block_goes = refl
+
+  pub event_goes : before_two d.q ≡ event_first (delays_of d)
+  unfolding delays_of
+  event_goes = refl
 
 -- ---- what is no block's end has nothing reckoned
 

@@ -1,5 +1,5 @@
 -- What a round takes up, case by case. Assumes nothing.
-use Prim.Native.Nat.{ℕ, zero, suc, max, ◌+◌, ◌^◌, ◌<◌}
+use Prim.Native.Nat.{ℕ, zero, suc, ◌+◌, ◌^◌, ◌<◌}
 use mathlib.Core.Path.{◌≡◌, refl, sym, ap, subst, ◌∙◌}
 use mathlib.Core.Bool.{Bool, true, false}
 use mathlib.Core.List.{List, head?, map}
@@ -7,6 +7,7 @@ use mathlib.Core.Option.{Option as RulesOption, none, some}
 use native.Mathlib.Omega.{arith}
 use lib.Dec.{ltb}
 use Rattle.std.specs.Prelude.{if◌then◌else◌, Option, Some, None}
+use Rattle.std.specs.Option.{option_map}
 use Rattle.rules.specs.State.{SideState, State, side}
 use Rattle.rules.specs.ChoiceHeads.{Head as RulesHead, waiting_head}
 use Rattle.rules.specs.ChoiceDelays.{next_block, first_block, Block, action_moments}
@@ -18,6 +19,8 @@ use Rattle.event.specs.HandedIn.{side_of, aggregate_in}
 use Rattle.queue_event.specs.Tag.{side_field, is_client}
 use Rattle.queue_event.specs.Chain.{rec_at, nodes, Rec}
 use Rattle.queue_event.specs.Values.{read_aggregate}
+use Rattle.queue_event.specs.Walks.{FirstOf}
+use Rattle.queue_event.specs.declared.read.Record.{Record}
 use Rattle.layout.specs.Records.{head_of, count_of, chain_at}
 use Rattle.layout.specs.Layout.{side_at, aggregate_from, held_aggregate, state_from}
 use Rattle.queue.specs.declared.peek.Head.{Head}
@@ -53,13 +56,13 @@ module _ (h rs : List ℕ) where
   unfolding state_from
   aggregates_are = ap (λ l. head? (map held_aggregate l)) (sym (chains_at h rs 11 (omega arith)))
 
-  pub aggregate_none : count_of h 11 ≡ 0 → Picked h rs None (or_none an_aggregate (head? (state_from h rs).aggregates))
+  aggregate_none : count_of h 11 ≡ 0 → Picked h rs None (or_none an_aggregate (head? (state_from h rs).aggregates))
   unfolding next_of NextStands nodes
   aggregate_none z =
       record { is = ap (or_none an_aggregate) (sym (ap (λ i. head? (map held_aggregate (nodes rs i (head_of h 11)))) z) ∙ aggregates_are); stands = tt }
 
   -- the first record, p of the words rs'
-  pub aggregate_some : (rs' : List ℕ) (p : ℕ) (a : AggregateDelay) → 0 < count_of h 11 → p ≡ head_of h 11 → rs' ≡ rs → a ≡ read_aggregate (rec_at rs' p)
+  aggregate_some : (rs' : List ℕ) (p : ℕ) (a : AggregateDelay) → 0 < count_of h 11 → p ≡ head_of h 11 → rs' ≡ rs → a ≡ read_aggregate (rec_at rs' p)
       → Picked h rs (Some (AnAggregate a)) (or_none an_aggregate (head? (state_from h rs).aggregates))
   unfolding next_of NextStands candidate_of Stands
   aggregate_some rs' p a more ep er ea =
@@ -69,6 +72,11 @@ module _ (h rs : List ℕ) where
             ∙ ap (or_none an_aggregate) (sym (ap (λ l. head? (map held_aggregate l)) (nodes_next rs (count_of h 11) (head_of h 11) more)) ∙ aggregates_are);
         stands = more;
       }
+
+  pub aggregate_as : (o : Option Record) (q : Option Candidate) → FirstOf rs (count_of h 11) (head_of h 11) o → q ≡ option_map (λ x. AnAggregate (read_aggregate (rec_at x.records.now x.at))) o
+      → Picked h rs q (or_none an_aggregate (head? (state_from h rs).aggregates))
+  aggregate_as None q z e = subst (λ x. Picked h rs x (or_none an_aggregate (head? (state_from h rs).aggregates))) (sym e) (aggregate_none z)
+  aggregate_as (Some x) q f e = subst (λ x. Picked h rs x (or_none an_aggregate (head? (state_from h rs).aggregates))) (sym e) (aggregate_some x.records.now x.at _ f.0 f.1 f.2 refl)
 
 -- ---- the next block to end
 
@@ -95,28 +103,34 @@ module _ (h rs : List ℕ) (t : ℕ) (k : Option BlockEnd) (ek : blocked_of k �
   unfolding next_of NextStands NextReckoned blocked_of
   block_none e = record { picked = record { is = ap (or_none a_block) (ap blocked_of (sym e) ∙ ek); stands = tt }; reckoned = tt }
 
-  pub block_some : (z : BlockEnd) (end : ℕ) (by : Option Length) → k ≡ Some z → end ≡ max z.end.0 t
+  pub block_some : (z : BlockEnd) (end : ℕ) (by : Option Length) → k ≡ Some z → end ≡ end_moment t (block_from z)
       → delayed_of by ≡ held_up_length (side_held h rs z.client) end (waiting_head false (side_held h rs z.client))
       → TakenUp h rs t (Some (ABlock z by)) (or_none a_block (next_block (state_from h rs)))
   unfolding next_of NextStands NextReckoned candidate_of Stands Reckoned blocked_of Ends
   block_some z end by e ee eb =
       let q = ap blocked_of (sym e) ∙ ek in
-      let late : end ≡ end_moment t (block_from z) = omega arith in
       record {
         picked = record { is = ap (or_none a_block) q; stands = subst (Ends (state_from h rs)) (sym q) (next_ends (state_from h rs)) };
-        reckoned = eb ∙ ap (λ i. held_up_length (side_held h rs z.client) i (waiting_head false (side_held h rs z.client))) late;
+        reckoned = eb ∙ ap (λ i. held_up_length (side_held h rs z.client) i (waiting_head false (side_held h rs z.client))) ee;
       }
 
 -- ---- what the queues offer
 
 module _ (f : Option Head) where
-  pub event_none : f ≡ None → (h rs : List ℕ) (o : RulesOption RulesHead) → PeekedBoth h rs f o → Picked h rs None (or_none an_event o)
+  event_none : f ≡ None → (h rs : List ℕ) (o : RulesOption RulesHead) → PeekedBoth h rs f o → Picked h rs None (or_none an_event o)
   unfolding next_of NextStands found_of
   event_none e h rs o p = record { is = ap (or_none an_event) (ap found_of (sym e) ∙ p.is); stands = tt }
 
-  pub event_some : (x : Head) → f ≡ Some x → (h rs : List ℕ) (o : RulesOption RulesHead) → PeekedBoth h rs f o → Picked h rs (Some (AnEvent x)) (or_none an_event o)
+  event_some : (x : Head) → f ≡ Some x → (h rs : List ℕ) (o : RulesOption RulesHead) → PeekedBoth h rs f o → Picked h rs (Some (AnEvent x)) (or_none an_event o)
   unfolding next_of NextStands candidate_of Stands found_of
   event_some x e h rs o p = record { is = ap (or_none an_event) (ap found_of (sym e) ∙ p.is); stands = stands_on_at h rs f x e p.stands }
+
+  pub event_as : (q : Option Candidate) → q ≡ option_map (λ x. AnEvent x) f → (h rs : List ℕ) (o : RulesOption RulesHead) → PeekedBoth h rs f o → Picked h rs q (or_none an_event o)
+  event_as q eq h rs o p = subst (λ x. Picked h rs x (or_none an_event o)) (sym eq) (go f refl)
+    where
+      go : (x : Option Head) → f ≡ x → Picked h rs (option_map (λ y. AnEvent y) x) (or_none an_event o)
+      go None e = event_none e h rs o p
+      go (Some x) e = event_some x e h rs o p
 
 -- ---- the timer and the action that are due
 

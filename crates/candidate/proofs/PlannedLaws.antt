@@ -1,64 +1,33 @@
--- An action read from its three words, and as what a round takes up. Assumes nothing.
-use Prim.Native.Nat.{ℕ, zero, suc, ◌+◌, ◌*◌, ◌/◌, ◌%◌, ◌<◌}
-use mathlib.Core.Path.{◌≡◌, refl, sym, ap, ◌∙◌}
-use mathlib.Core.Bool.{Bool}
+-- The action of a slot as what a round takes up. Assumes nothing.
+use Prim.Native.Nat.{ℕ}
+use mathlib.Core.Path.{◌≡◌, refl, sym, ap, subst, ◌∙◌}
 use mathlib.Core.List.{List}
-use mathlib.Core.Option.{none, some}
-use native.Mathlib.Omega.{arith}
-use lib.ListN.{get_or}
-use Rattle.std.specs.Prelude.{Some, None}
-use Rattle.rules.specs.ChoiceRound.{action_in, or_none, an_action, action_from as action_from_slot}
+use Rattle.std.specs.Prelude.{Option, Some, None}
+use Rattle.std.specs.Option.{option_map}
+use Rattle.rules.specs.ChoiceRound.{action_in, or_none, an_action, action_from}
 use Rattle.event.specs.declared.ScheduledAction.{ScheduledAction}
-use Rattle.event.specs.HandedIn.{side_of}
-use Rattle.queue_event.specs.Tag.{flag}
-use Rattle.layout.specs.Changes.{side_no}
-use Rattle.layout.specs.Layout.{action_from, firsts, state_from}
-use Rattle.candidate.specs.declared.Due.{Due}
+use Rattle.layout.specs.Layout.{state_from}
+use Rattle.queue.specs.declared.header.Slot.{Slot}
+use Rattle.queue.specs.Slots.{slot_from, action_no, KindIn}
+use Rattle.candidate.specs.declared.Candidate.{Candidate}
 use Rattle.candidate.specs.declared.Candidate.TheVariants.{Action as TheAction}
-use Rattle.candidate.specs.Candidates.{due_slot, action_value, candidate_of, next_of, Stands, NextStands}
-use Rattle.candidate.specs.Promises.{planned_in, Picked}
-use Rattle.candidate.proofs.SlotLaws.{actions_are, action_words}
+use Rattle.candidate.specs.Candidates.{candidate_of, next_of, Stands, NextStands}
+use Rattle.candidate.specs.Promises.{Picked}
 
--- ---- the words
-
--- the action of three words
-abbrev pub action_read : ℕ → ℕ → ℕ → ScheduledAction
-action_read w m d = record { kind = record { 0 = w % 4 }; moment = record { 0 = m }; duration = record { 0 = d }; bypass = flag (w / 4 % 2); replace = flag (w / 8 % 2) }
-
-read_none : (w m d : ℕ) → w ≡ 0 → action_from w m d ≡ none
-unfolding action_from
-read_none w m d e = ap (λ i. action_from i m d) e
-
-read_some : (w m d : ℕ) → (w ≡ 0 → ⊥) → action_from w m d ≡ some (action_value (action_read w m d))
-unfolding action_from
-read_some zero m d ne = absurd (ne refl)
-read_some (suc n) m d ne = refl
-
--- ---- the slot
-
-get_d_firsts : {A : Type 0} (n : ℕ) (f : ℕ → A) (m : ℕ) (d : A) → m < n → get_or (firsts n f) m d ≡ f m
-get_d_firsts zero f m d l = absurd (omega arith)
-get_d_firsts (suc n) f zero d l = refl
-get_d_firsts (suc n) f (suc m) d l = get_d_firsts n (λ i. f (suc i)) m d (omega arith)
-
-pub planned_in_lem : (h rs : List ℕ) (b : Bool) (m : ℕ) → m < 16 → action_in (state_from h rs) (record { side = side_of b; machine = m }) ≡ planned_in h b m
-planned_in_lem h rs b m l = ap (λ x. get_or x m none) (actions_are h rs b) ∙ get_d_firsts 16 (planned_in h b) m none l
-
-module _ (h rs : List ℕ) (d : Due) (j : ℕ) (ej : j ≡ 16 * side_no (side_of d.client) + d.machine) where
-  e : 96 + 3 * j ≡ 96 + 3 * (16 * side_no (side_of d.client) + d.machine)
-  e = ap (λ i. 96 + 3 * i) ej
-
-  held_is : action_from (get_or h (96 + 3 * j) 0) (get_or h (96 + 3 * j + 1) 0) (get_or h (96 + 3 * j + 2) 0) ≡ action_in (state_from h rs) (due_slot d)
-  held_is = action_words h d.client d.machine (96 + 3 * j) d.known e ∙ sym (planned_in_lem h rs d.client d.machine d.known)
-
-  pub planned_none : get_or h (96 + 3 * j) 0 ≡ 0 → Picked h rs None (action_from_slot (state_from h rs) (due_slot d))
+module _ (h : List ℕ) (z : Slot) (r : Option ScheduledAction) (is : (rs : List ℕ) → action_no r ≡ action_in (state_from h rs) (slot_from z)) where
+  planned_none : r ≡ None → (rs : List ℕ) → Picked h rs None (action_from (state_from h rs) (slot_from z))
   unfolding next_of NextStands
-  planned_none z = record { is = ap (or_none (an_action (due_slot d))) (sym (read_none (get_or h (96 + 3 * j) 0) (get_or h (96 + 3 * j + 1) 0) (get_or h (96 + 3 * j + 2) 0) z) ∙ held_is); stands = tt }
+  planned_none e rs = record { is = ap (or_none (an_action (slot_from z))) (ap action_no (sym e) ∙ is rs); stands = tt }
 
-  pub planned_some : (a : ScheduledAction) (k : d.machine < 16) → (get_or h (96 + 3 * j) 0 ≡ 0 → ⊥) → a ≡ action_read (get_or h (96 + 3 * j) 0) (get_or h (96 + 3 * j + 1) 0) (get_or h (96 + 3 * j + 2) 0)
-      → Picked h rs (Some (TheAction (record { client = d.client; machine = d.machine; action = a; known = k }))) (action_from_slot (state_from h rs) (due_slot d))
-  unfolding next_of NextStands candidate_of Stands
-  planned_some a k ne ea = record { is = ap (or_none (an_action (due_slot d))) held; stands = (sym held, ap (λ (x : ScheduledAction). x.kind.0) ea ∙ ap (λ (i : ℕ). get_or h i 0 % 4) e) }
+  planned_some : (a : ScheduledAction) → r ≡ Some a → KindIn h z r → (rs : List ℕ) → Picked h rs (Some (TheAction (record { slot = z; action = a }))) (action_from (state_from h rs) (slot_from z))
+  unfolding next_of NextStands candidate_of Stands KindIn
+  planned_some a e k rs =
+      let held = ap action_no (sym e) ∙ is rs in
+      record { is = ap (or_none (an_action (slot_from z))) held; stands = (sym held, rw e at k) }
+
+  pub planned_as : (q : Option Candidate) → q ≡ option_map (λ a. TheAction (record { slot = z; action = a })) r → KindIn h z r → (rs : List ℕ) → Picked h rs q (action_from (state_from h rs) (slot_from z))
+  planned_as q eq k rs = subst (λ x. Picked h rs x (action_from (state_from h rs) (slot_from z))) (sym eq) (go r refl)
     where
-      held : some (action_value a) ≡ action_in (state_from h rs) (due_slot d)
-      held = ap (λ (x : ScheduledAction). some (action_value x)) ea ∙ sym (read_some (get_or h (96 + 3 * j) 0) (get_or h (96 + 3 * j + 1) 0) (get_or h (96 + 3 * j + 2) 0) ne) ∙ held_is
+      go : (x : Option ScheduledAction) → r ≡ x → Picked h rs (option_map (λ a. TheAction (record { slot = z; action = a })) x) (action_from (state_from h rs) (slot_from z))
+      go None e = planned_none e rs
+      go (Some a) e = planned_some a e k rs

@@ -1,16 +1,14 @@
 -- The code's candidate as the rules' own, and what is known of one that was found. Assumes nothing.
-use Rattle.std.specs.Prelude.{ℕ, ◌+◌, ◌*◌, ◌%◌, ◌<◌, ◌≡◌, Bool, false, List, Option, Some, None}
+use Rattle.std.specs.Prelude.{ℕ, ◌<◌, ◌≡◌, false, List, Option, Some, None}
 use Rattle.std.proofs.Math.Option.{Option as RulesOption, some}
-use Rattle.rules.specs.State.{Action, State, in_record, side}
+use Rattle.rules.specs.State.{State, in_record, side}
 use Rattle.rules.specs.ChoiceHeads.{waiting_head}
 use Rattle.rules.specs.ChoiceDelays.{Block as EndingBlock}
-use Rattle.rules.specs.ChoiceRound.{Slot, Candidate as RulesCandidate, an_aggregate, a_block, an_event, a_timer, an_action, none_left, action_in, end_moment, held_up_length}
+use Rattle.rules.specs.ChoiceRound.{Slot as RulesSlot, Candidate as RulesCandidate, an_aggregate, a_block, an_event, a_timer, an_action, none_left, action_in, end_moment, held_up_length}
 use Rattle.event.specs.HandedIn.{side_of, aggregate_in}
-use Rattle.event.specs.declared.ScheduledAction.{ScheduledAction}
-use Rattle.layout.specs.Header.{action_of}
-use Rattle.layout.specs.Changes.{side_no}
 use Rattle.layout.specs.Records.{head_of, count_of}
-use Rattle.layout.specs.Layout.{state_from, action_kind_at}
+use Rattle.layout.specs.Layout.{state_from}
+pub use Rattle.queue.specs.Slots.{machine_slot, slot_from, action_value, slot_kind}
 use Rattle.queue.specs.Heads.{head_from, HeadOk}
 use Rattle.queue_peek.specs.Decoded.{block_from}
 use Rattle.delay.specs.Tests.{delayed_of}
@@ -21,16 +19,11 @@ use Rattle.candidate.specs.declared.Candidate.TheVariants.{Aggregate, Block, Eve
 
 -- ---- decoding
 
--- a machine of a side
-abbrev pub due_slot : Due → Slot
-due_slot d = record { side = side_of d.client; machine = d.machine }
+abbrev pub due_slot : Due → RulesSlot
+due_slot d = slot_from d.slot
 
-abbrev pub planned_slot : Planned → Slot
-planned_slot p = record { side = side_of p.client; machine = p.machine }
-
--- `ScheduledAction`: kind 1 is `SendPadding`, 2 `BlockOutgoing`
-abbrev pub action_value : ScheduledAction → Action
-action_value a = record { kind = action_kind_at a.kind.0; moment = a.moment.0; duration = a.duration.0; bypass = a.bypass; replace = a.replace }
+abbrev pub planned_slot : Planned → RulesSlot
+planned_slot p = slot_from p.slot
 
 -- `Candidate`, of the words h: an aggregate is the head of chain 11
 unfoldable pub candidate_of : List ℕ → Candidate → RulesCandidate
@@ -47,17 +40,13 @@ next_of h None = none_left
 
 -- ---- what is known of a candidate that was found in the words h and rs
 
--- the number of the kind in a slot of a side: `action_value` reads more than one number as `BlockOutgoing`
-abbrev pub slot_kind : List ℕ → Bool → ℕ → ℕ
-slot_kind h client machine = action_of h (16 * side_no (side_of client) + machine) % 4
-
 unfoldable pub Stands : List ℕ → List ℕ → Candidate → Type 0
 Stands h rs (Aggregate a) = 0 < count_of h 11
 Stands h rs (Block k by) = (side (state_from h rs) (side_of k.client)).block_end ≡ some k.end.0
 Stands h rs (Event x) = HeadOk h rs x.event.client x
 Stands h rs (Timer d) = Unit {0}
 Stands h rs (TheAction p) =
-    (action_in (state_from h rs) (planned_slot p) ≡ some (action_value p.action)) × (p.action.kind.0 ≡ slot_kind h p.client p.machine)
+    (action_in (state_from h rs) (planned_slot p) ≡ some (action_value p.action)) × (p.action.kind.0 ≡ slot_kind h p.slot.client p.slot.machine)
 
 -- what the test at a block's end finds, where the round is made at the time t
 abbrev pub held_up_at : State → ℕ → EndingBlock → RulesOption ℕ

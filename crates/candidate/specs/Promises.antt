@@ -1,18 +1,16 @@
 -- What the functions promise beyond an equation. Assumes nothing.
-use Rattle.std.specs.Prelude.{ℕ, ◌+◌, ◌*◌, ◌≤◌, ◌≡◌, Bool, false, List, eqb, if◌then◌else◌, Option, Some, None}
+use Rattle.std.specs.Prelude.{ℕ, ◌+◌, ◌≤◌, ◌≡◌, Bool, false, List, eqb, if◌then◌else◌, Option, Some, None}
 use Rattle.std.proofs.Math.Option.{Option as RulesOption, none, some}
 use Rattle.rules.specs.Basics.{after, absent, Delay}
-use Rattle.rules.specs.State.{Action, SideState, State}
+use Rattle.rules.specs.State.{SideState, State}
 use Rattle.rules.specs.Limits.{moment_limit}
 use Rattle.rules.specs.ChoiceDelays.{Delays, offered}
-use Rattle.rules.specs.ChoiceRound.{Slot, Candidate as RulesCandidate, an_event, or_none, slot_at, slot_of, due_timer, due_action, event_first, timer_first}
-use Rattle.event.specs.HandedIn.{side_of}
-use Rattle.layout.specs.Changes.{side_no}
-use Rattle.layout.specs.Layout.{bank, action_from}
+use Rattle.rules.specs.ChoiceRound.{Slot as RulesSlot, Candidate as RulesCandidate, an_event, or_none, slot_at, slot_of, due_timer, due_action, event_first, timer_first}
+use Rattle.queue.specs.declared.header.Slot.{Slot}
 use Rattle.queue.specs.declared.view.Words.{Words}
 use Rattle.candidate.specs.declared.Due.{Due}
 use Rattle.candidate.specs.declared.Candidate.{Candidate}
-use Rattle.candidate.specs.Candidates.{due_slot, next_of, NextStands, NextReckoned}
+use Rattle.candidate.specs.Candidates.{slot_from, due_slot, next_of, NextStands, NextReckoned}
 
 -- ---- slots
 
@@ -21,23 +19,15 @@ abbrev pub has_moment : ℕ → RulesOption ℕ → Bool
 has_moment t none = false
 has_moment t (some u) = eqb u t
 
--- the action of machine i of a side
-unfoldable pub planned_in : List ℕ → Bool → ℕ → RulesOption Action
-planned_in h client i =
-    action_from
-    (bank 96 96 h (3 * (16 * side_no (side_of client) + i)))
-    (bank 96 96 h (1 + 3 * (16 * side_no (side_of client) + i)))
-    (bank 96 96 h (2 + 3 * (16 * side_no (side_of client) + i)))
-
 -- ---- what was found
 
--- a machine, or none
-unfoldable pub machine_of : Option ℕ → RulesOption ℕ
-machine_of (Some m) = some m
-machine_of None = none
+-- a slot, or none
+unfoldable pub found_slot : Option Slot → RulesOption RulesSlot
+found_slot (Some z) = some (slot_from z)
+found_slot None = none
 
 -- the slot that is due, or none
-unfoldable pub due_of : Option Due → RulesOption Slot
+unfoldable pub due_of : Option Due → RulesOption RulesSlot
 due_of (Some d) = some (due_slot d)
 due_of None = none
 

@@ -8,7 +8,7 @@ ghost use Rattle.rules.specs.ChoiceDelays.{offered as offered_at};
 ghost use Rattle.rules.specs.ChoiceRound.{candidate as candidate_at, aggregate_first, block_first, event_first, or_none, an_aggregate, a_block, an_event, due_timer, due_action, held_up_length};
 ghost use Rattle.queue.specs.declared.view.Words.{Words};
 ghost use Rattle.queue.specs.Heads.{PeekedBothIn};
-ghost use Rattle.queue.specs.Views.{state_in, side_in};
+ghost use Rattle.queue.specs.Views.{state_in, side_at};
 ghost use Rattle.queue_peek.specs.Decoded.{delay_of, delays_of};
 ghost use Rattle.delay.specs.Tests.{delayed_of};
 ghost use Rattle.candidate.specs.Promises.{PickedIn, TakenUpIn};
@@ -17,51 +17,46 @@ ghost use Rattle.candidate.specs.Promises.{Ahead, later_fitting};
 use crate::{Candidate, slots};
 use moment::{Length, Moment, Time};
 use queue::peek::Head;
-use queue::{View, header, peek};
+use queue::{SideView, View, header};
 use queue_peek::five::Delays;
 use queue_peek::slots::{Actions, Timers};
 use queue_peek::{Slotted, not_later};
 
-// An aggregate goes before what is as early. Each comparison is two words: `&` has no branch; with `&&` the value comes by several paths, each of which the
-// proof takes apart.
+// An aggregate goes before what is as early.
 fn aggregate_first(d: Delays) -> bool
     ensures { result ≡ aggregate_first (delays_of d) }
 {
-    not_later(d.n, d.s) & not_later(d.n, d.i) & not_later(d.n, d.b) & not_later(d.n, d.q)
+    not_later(d.n, d.s) && not_later(d.n, d.i) && not_later(d.n, d.b) && not_later(d.n, d.q)
 }
 
 // Then a block's end.
 fn block_first(d: Delays) -> bool
     ensures { result ≡ block_first (delays_of d) }
 {
-    not_later(d.b, d.s) & not_later(d.b, d.i) & not_later(d.b, d.q)
+    not_later(d.b, d.s) && not_later(d.b, d.i) && not_later(d.b, d.q)
 }
 
 // Then a queued event.
 fn event_first(d: Delays) -> bool
     ensures { result ≡ event_first (delays_of d) }
 {
-    not_later(d.q, d.s) & not_later(d.q, d.i)
+    not_later(d.q, d.s) && not_later(d.q, d.i)
 }
 
 // The first aggregate.
 fn aggregate_candidate(view: &View) -> Option<Candidate>
     ensures { PickedIn view.now.words result (or_none an_aggregate (head? (state_in view.now.words).aggregates)) }
 {
-    let first = view.head(header::AGGREGATES)?;
-    Some(Candidate::Aggregate(first.aggregate()))
+    view.head(header::AGGREGATES)
+        .map(|first| Candidate::Aggregate(first.aggregate()))
 }
 
 // What the test at a block's end finds.
-fn held_up(view: &View, client: bool, end: Moment) -> Option<Length>
-    ensures { delayed_of result ≡ held_up_length (side_in view.now.words client) end.0 (waiting_head no (side_in view.now.words client)) }
+fn held_up(side: &SideView, end: Moment) -> Option<Length>
+    ensures { delayed_of result ≡ held_up_length (side_at side.now) end.0 (waiting_head no (side_at side.now)) }
 {
-    let h = peek::peek_blocking(view, false, client)?;
-    if h.moment >= end {
-        return None;
-    }
-    let sum = delay::sum(view, client);
-    delay::agg_delay_on_blocking_expire(view, client, end, h.moment, sum, delay::usual())
+    let h = side.peek_blocking(false).filter(|h| h.moment < end)?;
+    delay::agg_delay_on_blocking_expire(side, end, h.moment, side.sum(), delay::usual())
 }
 
 // The next block to end. What waits behind it is looked through here, once for its sums and its aggregates.
@@ -69,8 +64,8 @@ fn block_candidate(view: &View, time: Moment) -> Option<Candidate>
     ensures { TakenUpIn view.now.words time.0 result (or_none a_block (next_block (state_in view.now.words))) }
 {
     let k = queue_peek::next_block(&view.words)?;
-    let end = k.end.max(time);
-    let by = held_up(view, k.client, end);
+    let end = k.end_moment(time);
+    let by = held_up(&view.side(k.client), end);
     Some(Candidate::Block(k, by))
 }
 
@@ -78,8 +73,7 @@ fn block_candidate(view: &View, time: Moment) -> Option<Candidate>
 fn event_candidate(found: Option<Head>) -> Option<Candidate>
     ensures { (v : Words) (o : Option RulesHead) → PeekedBothIn v found o → PickedIn v result (or_none an_event o) }
 {
-    let h = found?;
-    Some(Candidate::Event(h))
+    found.map(Candidate::Event)
 }
 
 // The timer that is due after the delay. It has two lines in common with the action's: one function for both would need a definition of its own, of a

@@ -1,10 +1,9 @@
 // What a round of a choice takes up: the candidate, and the sums that number 10 looks at.
 #![tactic(auto)]
 
-ghost use Rattle.std.specs.Prelude.{◌<◌};
-
 use event::{AggregateDelay, ScheduledAction};
 use moment::{Length, Moment};
+use queue::header::Slot;
 use queue::peek::Head;
 use queue_peek::blocks::BlockEnd;
 
@@ -12,22 +11,18 @@ pub mod first;
 pub mod slots;
 pub mod sums;
 
-// A timer that is due: its side and machine, and when.
+// A timer that is due: its slot, and when.
 #[derive(Clone, Copy)]
 pub struct Due {
-    pub client: bool,
-    pub machine: u64,
+    pub slot: Slot,
     pub moment: Moment,
-    pub ghost known: { machine < 16 },
 }
 
-// An action that is due: its side and machine, and what it is.
+// An action that is due: its slot, and what it is.
 #[derive(Clone, Copy)]
 pub struct Planned {
-    pub client: bool,
-    pub machine: u64,
+    pub slot: Slot,
     pub action: ScheduledAction,
-    pub ghost known: { machine < 16 },
 }
 
 // What a round takes up.

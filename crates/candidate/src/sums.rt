@@ -1,38 +1,39 @@
 // The sums that number 10 looks at: those of every round, and those of what it takes up.
-ghost use Rattle.std.specs.Prelude.{◌≡◌, List, [], ◌∷◌, ℕ, ◌+◌, ◌^◌, ◌<◌, ◌≤◌};
+ghost use Rattle.std.specs.Prelude.{◌≡◌, List, [], ◌∷◌, ℕ, ◌≤◌};
 ghost use Rattle.rules.specs.Limits.{moment_limit, duration_limit};
 ghost use Rattle.rules.specs.Aggregates.{base_moment, some_sum};
 ghost use Rattle.rules.specs.ChoiceRound.{fits, always_sums, candidate_sums, raised_sum, action_sums, a_block};
 ghost use Rattle.event.specs.HandedIn.{aggregate_in};
-ghost use Rattle.layout.specs.Header.{Limited};
 ghost use Rattle.layout.specs.Layout.{state_from};
 ghost use Rattle.queue.specs.Heads.{side_held};
-ghost use Rattle.queue.specs.Views.{state_in, side_in};
+ghost use Rattle.queue.specs.Views.{state_in, side_at};
 ghost use Rattle.queue_peek.specs.Decoded.{block_from};
 ghost use Rattle.delay.specs.Tests.{delayed_of};
 ghost use Rattle.candidate.specs.Candidates.{action_value, candidate_of, held_up_at, Stands, Reckoned};
 
 use crate::{Candidate, Planned};
 use event::{ActionKind, AggregateDelay};
-use moment::{Length, Moment, Span, Time};
-use network::aggregate;
-use queue::{View, Words, header};
+use moment::{Length, Moment, Time};
+use network::{Lag, aggregate};
+use queue::{SideView, View, header};
 use queue_peek::Slotted;
 use queue_peek::blocks::BlockEnd;
 
 // The base head of a side plus its sum.
-fn base_fits(view: &View, client: bool) -> bool
-    ensures { result ≡ fits (some_sum (base_moment (side_in view.now.words client).sum (side_in view.now.words client).queues.base)) }
+fn base_fits(side: &SideView) -> bool
+    ensures { result ≡ fits (some_sum (base_moment (side_at side.now).sum (side_at side.now).queues.base)) }
 {
-    let base_sum = delay::sum(view, client);
-    aggregate::base_fits(delay::base_moment(view, client, base_sum))
+    let base_sum = side.sum();
+    aggregate::base_fits(delay::base_moment(side, base_sum))
 }
 
 // The sums of every round: the round total, and both base heads plus their side's sum.
 pub fn always_fits(view: &View) -> bool
     ensures { result ≡ fits (always_sums (state_in view.now.words)) }
 {
-    (view.words.header[17] < Moment::LIMIT) & base_fits(view, true) & base_fits(view, false)
+    view.words.header[header::ROUNDS] < Moment::LIMIT
+        && base_fits(&view.side(true))
+        && base_fits(&view.side(false))
 }
 
 // An aggregate's length on top of its side's sum. A length above the limit is not added.
@@ -53,31 +54,21 @@ fn block_fits(slotted: &Slotted, time: Time, k: BlockEnd, by: Option<Length>) ->
         → result ≡ fits (candidate_sums (state_from slotted.now.words.header.now rs) time.at.0 (a_block (block_from k))) }
 {
     let end = Time {
-        at: k.end.max(time.at),
+        at: k.end_moment(time.at),
     };
-    let reporting = Length(slotted.words.of_side(header::REPORTING_DELAY, k.client));
-    let delay = Span {
-        length: Length(slotted.words.header[0]),
+    let reporting = slotted.words.reporting_delay(k.client);
+    let lag = Lag {
+        delay: slotted.words.network_delay(),
+        time: end,
     };
-    end.at.plus(reporting).fits() && aggregate::fit(delay, k.client, end, by)
-}
-
-// Action and reporting delay of a side together.
-pub fn both_delays(words: &Words, client: bool) -> Length
-    requires { (side_in words.now client).fixed.action_delay + (side_in words.now client).fixed.reporting_delay < 2 ^ 64 }
-    ensures is { (rs : List ℕ) → result.0 ≡ (side_held words.now.header.now rs client).fixed.action_delay + (side_held words.now.header.now rs client).fixed.reporting_delay }
-    ensures small { Limited words.now.header.now → result.0 ≤ duration_limit + duration_limit }
-{
-    let action = Length(words.of_side(header::ACTION_DELAY, client));
-    let reporting = Length(words.of_side(header::REPORTING_DELAY, client));
-    action.plus(reporting)
+    end.at.plus(reporting).fits() && aggregate::fit(lag, k.client, by)
 }
 
 // The end of a block that an action sets, and the moment of `BlockingBegin`.
 fn action_fits(slotted: &Slotted, p: Planned) -> bool
     requires moment_small { p.action.moment.0 ≤ moment_limit }
     requires duration_small { p.action.duration.0 ≤ duration_limit }
-    ensures { (rs : List ℕ) → result ≡ fits (action_sums (action_value p.action).kind (side_held slotted.now.words.header.now rs p.client) (action_value p.action)) }
+    ensures { (rs : List ℕ) → result ≡ fits (action_sums (action_value p.action).kind (side_held slotted.now.words.header.now rs p.slot.client) (action_value p.action)) }
 {
     let a = p.action;
     if a.kind.0 == ActionKind::SEND_PADDING {
@@ -86,7 +77,9 @@ fn action_fits(slotted: &Slotted, p: Planned) -> bool
     if !a.moment.plus(a.duration).fits() {
         return false;
     }
-    a.moment.plus(both_delays(&slotted.words, p.client)).fits()
+    a.moment
+        .plus(slotted.words.both_delays(p.slot.client))
+        .fits()
 }
 
 // The sums of what the round takes up.
@@ -98,8 +91,7 @@ pub fn candidate_fits(slotted: &Slotted, time: Time, c: Candidate) -> bool
     match c {
         Candidate::Aggregate(a) => aggregate_fits(slotted, a),
         Candidate::Block(k, by) => block_fits(slotted, time, k, by),
-        Candidate::Event(_) => true,
-        Candidate::Timer(_) => true,
+        Candidate::Event(_) | Candidate::Timer(_) => true,
         Candidate::Action(p) => action_fits(slotted, p),
     }
 }

@@ -1,14 +1,15 @@
-// The three aggregate tests of delay.rs. Margins and sum are handed in.
+// The three aggregate tests of delay.rs. Margins and sum are handed in, each by itself: docs/DECISIONS.md has why.
 // What stands for each type in the rules is in specs/Tests; that the tests are the rules' own at the usual margins, in proofs/Rules.
 #![tactic(auto)]
 
 ghost use Rattle.std.specs.Prelude.{◌≡◌};
 ghost use Rattle.rules.specs.Aggregates.{base_moment, within};
-ghost use Rattle.queue.specs.Views.{side_in, moment_no};
+ghost use Rattle.queue.specs.Views.{side_at, moment_no};
 ghost use Rattle.delay.specs.Tests.{delayed_of, usual_margins, without, Packets, expire_over, replace_over, delayed_over, sums_over, TestedAs, AskedAs};
 
 use moment::{Length, Moment, Sum};
-use queue::{Queue, View, header};
+use queue::{Queue, SideView};
+use queue_event::chain::Reach;
 
 pub mod waiting;
 
@@ -28,6 +29,7 @@ pub struct Tested {
 }
 
 // Whether a test holds, and the sum that it formed.
+// No Option: the sum stands whatever the test says.
 #[derive(Clone, Copy)]
 pub struct Asked {
     pub yes: bool,
@@ -44,44 +46,41 @@ pub fn usual() -> Margins
     }
 }
 
-// The sum of a side's delays, as the header has it.
-#[tactic(auto, using(queue::proofs::HeadsSides::sum_held))]
-pub fn sum(view: &View, client: bool) -> Sum
-    ensures { result.length.0 ≡ (side_in view.now.words client).sum }
-{
-    Sum {
-        length: Length(view.words.of_side(header::SUM, client)),
-    }
-}
-
 // The moment of the base head of a side, plus a sum.
-pub fn base_moment(view: &View, client: bool, sum: Sum) -> Option<Moment>
-    ensures { moment_no result ≡ base_moment sum.length.0 (side_in view.now.words client).queues.base }
+pub fn base_moment(side: &SideView, sum: Sum) -> Option<Moment>
+    ensures { moment_no result ≡ base_moment sum.length.0 (side_at side.now).queues.base }
 {
-    let first = view.head(Queue::Base.chain(client))?;
+    let first = side.view.head(Queue::Base.chain(side.client))?;
     Some(first.moment().plus(sum.length))
 }
 
-// Whether the base head is at most the margin since `from`.
-fn base_within(base: Option<Moment>, from: Moment, margin: Length) -> bool
-    ensures { result ≡ within margin.0 from.0 (moment_no base) }
+// Whether the base head is within reach.
+fn base_within(base: Option<Moment>, reach: Reach) -> bool
+    ensures { result ≡ within reach.margin.0 reach.from.0 (moment_no base) }
 {
-    base.is_some_and(|m| m.since(from) <= margin)
+    base.is_some_and(|m| reach.has(m))
 }
 
 // `agg_delay_on_blocking_expire`: a block ends while the first packet waits since `from`.
 pub fn agg_delay_on_blocking_expire(
-    view: &View,
-    client: bool,
+    side: &SideView,
     end: Moment,
     from: Moment,
     sum: Sum,
     margins: Margins,
 ) -> Option<Length>
-    ensures { delayed_of result ≡ expire_over margins sum.length.0 (side_in view.now.words client) end.0 from.0 }
+    ensures { delayed_of result ≡ expire_over margins sum.length.0 (side_at side.now) end.0 from.0 }
 {
-    let tail = waiting::burst_tail(view, client, from, margins.buffer);
-    if end == tail || base_within(base_moment(view, client, sum), from, margins.base) {
+    let burst = Reach {
+        from,
+        margin: margins.buffer,
+    };
+    let tail = waiting::burst_tail(side, burst);
+    let near = Reach {
+        from,
+        margin: margins.base,
+    };
+    if end == tail || base_within(base_moment(side, sum), near) {
         return None;
     }
     Some(end.since(tail))
@@ -89,9 +88,8 @@ pub fn agg_delay_on_blocking_expire(
 
 // `agg_delay_on_padding_bypass_replace`: padding is replaced by the packet at the head of the queue `of`, which counts as out of it.
 pub fn agg_delay_on_padding_bypass_replace(
-    view: &View,
+    side: &SideView,
     of: Queue,
-    client: bool,
     time: Moment,
     from: Moment,
     sum: Sum,
@@ -99,17 +97,25 @@ pub fn agg_delay_on_padding_bypass_replace(
 ) -> Tested
     requires { Packets of }
     ensures { TestedAs result
-        (replace_over margins sum.length.0 (without (side_in view.now.words client) of) time.0 from.0)
-        (sums_over margins sum.length.0 (without (side_in view.now.words client) of) from.0) }
+        (replace_over margins sum.length.0 (without (side_at side.now) of) time.0 from.0)
+        (sums_over margins sum.length.0 (without (side_at side.now) of) from.0) }
 {
-    if waiting::beside(view, of, client, from, margins.adjacent) {
+    let adjacent = Reach {
+        from,
+        margin: margins.adjacent,
+    };
+    if waiting::beside(side, of, adjacent) {
         return Tested {
             by: None,
             base: None,
         };
     }
-    let base = base_moment(view, client, sum);
-    if base_within(base, from, margins.base) {
+    let base = base_moment(side, sum);
+    let near = Reach {
+        from,
+        margin: margins.base,
+    };
+    if base_within(base, near) {
         return Tested { by: None, base };
     }
     Tested {
@@ -120,23 +126,30 @@ pub fn agg_delay_on_padding_bypass_replace(
 
 // `should_delayed_packet_prop_agg_delay`: a rate limit delays a packet of the moment `from`.
 pub fn should_delayed_packet_prop_agg_delay(
-    view: &View,
-    client: bool,
+    side: &SideView,
     from: Moment,
     sum: Sum,
     margins: Margins,
 ) -> Asked
     ensures { AskedAs result
-        (delayed_over margins sum.length.0 (side_in view.now.words client) from.0)
-        (sums_over margins sum.length.0 (side_in view.now.words client) from.0) }
+        (delayed_over margins sum.length.0 (side_at side.now) from.0)
+        (sums_over margins sum.length.0 (side_at side.now) from.0) }
 {
-    if waiting::adjacent(view, client, from, margins.adjacent) {
+    let adjacent = Reach {
+        from,
+        margin: margins.adjacent,
+    };
+    if waiting::adjacent(side, adjacent) {
         return Asked {
             yes: false,
             base: None,
         };
     }
-    let base = base_moment(view, client, sum);
-    let yes = !base_within(base, from, margins.base);
+    let base = base_moment(side, sum);
+    let near = Reach {
+        from,
+        margin: margins.base,
+    };
+    let yes = !base_within(base, near);
     Asked { yes, base }
 }

@@ -16,6 +16,7 @@ pub struct Kind(pub u64);
 
 impl Kind {
     // The ranks of `event_to_usize`.
+    // They are numbers, which document 01 calls associated constants of Kind: a tag holds one, and a chain is ordered by it.
     pub const TUNNEL_SENT: u64 = 0;
 
     pub const NORMAL_SENT: u64 = 1;

@@ -14,6 +14,7 @@ fn read_piece(stdin: &mut StdinLock, input: &mut [u8]) -> usize
 }
 
 // All of the input, in more pieces than any run can read. A last line needs no newline.
+// A range and no `loop`: the program has to end.
 fn run(stdin: &mut StdinLock, input: &mut [u8], session: &mut Session<'_>) {
     for _ in 0..u64::MAX {
         let n = read_piece(stdin, input);

@@ -110,37 +110,10 @@ stays_false a s b t e = before_true b (rank_of t) a (rank_of s) (not-false _ (sy
 abbrev pub Fine : ℕ → ℕ → Node → Type 0
 Fine k c x = RecordOk k c x.rec.moment x.rec.size x.rec.tag
 
-pub fit_insert : (k c : ℕ) (x : Node) (l : List Node) → Fine k c x → Fit k c l → Fit k c (insert_sorted x l)
-unfolding Fit insert_sorted
-fit_insert k c x [] f g = (f, tt)
-fit_insert k c x (y ∷ l) f g = go (stays y.rec.moment y.rec.tag x.rec.moment x.rec.tag) (fit_insert k c x l f g.1)
-  where
-    go : (b : Bool) → Fit k c (insert_sorted x l) → Fit k c (pick b (y ∷ insert_sorted x l) (x ∷ y ∷ l))
-    go true i = (g.0, i)
-    go false i = (f, g)
-
 abbrev After : ℕ → ℕ → ℕ → Node → Type 0
 After k m r x = Follows k m r x.rec.moment (kind_field x.rec.tag)
 
-order_after : (k m r : ℕ) (x : Node) (l : List Node) → After k m r x → Ordered k m r l → Ordered k m r (insert_sorted x l)
-unfolding Ordered insert_sorted
-order_after k m r x [] a o = (a, tt)
-order_after k m r x (y ∷ l) a o = go (stays y.rec.moment y.rec.tag x.rec.moment x.rec.tag) refl (λ f. order_after k y.rec.moment (kind_field y.rec.tag) x l f o.1)
-  where
-    go : (b : Bool) → stays y.rec.moment y.rec.tag x.rec.moment x.rec.tag ≡ b
-        → (After k y.rec.moment (kind_field y.rec.tag) x → Ordered k y.rec.moment (kind_field y.rec.tag) (insert_sorted x l))
-        → Ordered k m r (pick b (y ∷ insert_sorted x l) (x ∷ y ∷ l))
-    go true e i = let z = stays_true _ _ _ _ e in (o.0, i (record { moments = λ _. z.0; ranks = λ _ q. z.1 q }))
-    go false e i = let z = stays_false _ _ _ _ e in (a, (record { moments = λ _. z.0; ranks = λ _ q. z.1 q }, o.1))
-
-pub order_insert : (k : ℕ) (x : Node) (l : List Node) → Ordered k 0 0 l → Ordered k 0 0 (insert_sorted x l)
-order_insert k x l o = order_after k 0 0 x l (record { moments = λ _. omega arith; ranks = λ _ _. omega arith }) o
-
 -- ---- the tail of a chain; free records have no order
-
-pub fit_tail : (k c : ℕ) (x : Node) (l : List Node) → Fit k c (x ∷ l) → Fit k c l
-unfolding Fit
-fit_tail k c x l f = f.1
 
 order_from : (k m r : ℕ) (l : List Node) → Ordered k m r l → Ordered k 0 0 l
 unfolding Ordered

@@ -1,21 +1,21 @@
 -- THE law of a change of chains: chains j and k are given anew, every other chain and every other word of the header is as it was. What state the words
 -- then hold. Assumes nothing.
 use Prim.Native.Nat.{ℕ, ◌<◌, ◌+◌, ◌≤◌, ◌/◌}
-use mathlib.Core.Path.{◌≡◌, refl, sym, ap, ap₂, subst, ◌∙◌}
+use mathlib.Core.Path.{◌≡◌, refl, sym, ap₂, subst, ◌∙◌}
 use mathlib.Core.Bool.{Bool, true, false}
 use mathlib.Core.List.{List, map}
-use mathlib.Core.Logic.{◌⊎◌, inl, inr}
+use mathlib.Core.Logic.{◌⊎◌}
 use native.Mathlib.Omega.{arith}
 use native.Mathlib.Decide.{ℕ_discrete}
 use lib.Dec.{ltb}
 use lib.ListN.{length}
 use borrow.Author.Tests.{ltb-true, ltb-false}
 use Rattle.rules.specs.Basics.{Side, client, server}
-use Rattle.rules.specs.State.{Chain, base, blocking, bypassable, internal, State, side, with_side, queue, with_queue, with_queues, with_stamps, with_aggregates, with_free}
+use Rattle.rules.specs.State.{Chain, base, blocking, bypassable, internal, State, side, with_side, queue, with_stamps, with_free}
 use Rattle.queue_event.specs.Chain.{Node, nodes}
 use Rattle.layout.specs.Changes.{put_chain, put_two, TwoChains, chain_no, stamps_no, with_chain}
 use Rattle.layout.specs.Records.{chain_count, head_of, count_of}
-use Rattle.layout.specs.Layout.{bank, chains, held_event, held_stamp, held_aggregate, place_of, build, state_from}
+use Rattle.layout.specs.Layout.{bank, chains, held_event, held_stamp, place_of, build, state_from}
 use Rattle.layout.proofs.Banks.{upd, by_points, upd_same, upd_other, chains_at, chains_past}
 use Rattle.layout.proofs.ChainWords.{length_chain, head_same, count_same, head_other, count_other, bank_chain}
 
@@ -78,18 +78,8 @@ pub two_chains :
 two_chains h rs rs' k a n b m x y wide small nz new free others = held_two h 0 a n k b m wide (omega arith) small nz rs rs' y x free new others
 
 module _ (h rs rs' : List ℕ) (j a n k b m : ℕ) (y x : List Node) (t : TwoChains h rs rs' j a n k b m y x) where
-  chains_two : chains (put_two h j a n k b m) rs' ≡ upd (upd (chains h rs) j y) k x
-  chains_two = held_two h j a n k b m t.wide t.one_small t.other_small t.differ rs rs' y x t.one.held t.other.held (λ i l dk dj. (t.others i l dk dj).held)
-
   kept : (c w : ℕ) → (c + w ≤ 24) ⊎ (48 ≤ c) → bank c w (put_two h j a n k b m) ≡ bank c w h
   kept c w o = bank_chain (put_chain h j a n) k b m c w t.other_small o ∙ bank_chain h j a n c w t.one_small o
-
-  -- the state, by chain numbers
-  pub two_built :
-      state_from (put_two h j a n k b m) rs' ≡ build (bank 0 24 h) (bank 64 32 h) (bank 96 96 h) (upd (upd (chains h rs) j y) k x) (length rs / 4)
-  unfolding state_from
-  two_built = λ d.
-      build (kept 0 24 (inl (omega arith)) d) (kept 64 32 (inr (omega arith)) d) (kept 96 96 (inr (omega arith)) d) (chains_two d) (t.len d / 4)
 
 -- ---- the state, where a record goes from the free chain to chain k, or from chain k to the free chain
 
@@ -113,14 +103,6 @@ unfolding state_from
 stamps_built h rs client x y = refl
 stamps_built h rs server x y = refl
 
--- a packet that goes from blocking to bypassable keeps its record
-moved_built :
-    (h rs : List ℕ) (z : Side) (x y : List Node) → built h rs (upd (upd (chains h rs) (chain_no z blocking) y) (chain_no z bypassable) x)
-    ≡ with_side (state_from h rs) z (with_queues (side (state_from h rs) z) (with_queue (with_queue (side (state_from h rs) z).queues blocking (map (held_event z) y)) bypassable (map (held_event z) x)))
-unfolding state_from
-moved_built h rs client x y = refl
-moved_built h rs server x y = refl
-
 pub queue_built : (h rs : List ℕ) (z : Side) (c : Chain) → queue (side (state_from h rs) z).queues c ≡ map (held_event z) (chains h rs (chain_no z c))
 unfolding state_from
 queue_built h rs client base = refl
@@ -131,23 +113,3 @@ queue_built h rs server base = refl
 queue_built h rs server blocking = refl
 queue_built h rs server bypassable = refl
 queue_built h rs server internal = refl
-
-module _ (h rs rs' : List ℕ) (a n k b m : ℕ) (y x : List Node) (t : TwoChains h rs rs' 0 a n k b m y x) where
-  pub event_state : (z : Side) (c : Chain) → chain_no z c ≡ k → state_from (put_two h 0 a n k b m) rs' ≡ with_chain (state_from h rs) z c (map (held_event z) x) (map place_of y)
-  unfolding state_from
-  event_state z c e = two_built h rs rs' 0 a n k b m y x t ∙ ap (λ i. built h rs (upd (upd (chains h rs) 0 y) i x)) (sym e) ∙ chain_built (bank 0 24 h) (bank 64 32 h) (bank 96 96 h) (chains h rs) (length rs / 4) z c x y
-
-  pub stamp_state : (z : Side) → stamps_no z ≡ k → state_from (put_two h 0 a n k b m) rs' ≡ with_free (with_side (state_from h rs) z (with_stamps (side (state_from h rs) z) (map held_stamp x))) (map place_of y)
-  stamp_state z e = two_built h rs rs' 0 a n k b m y x t ∙ ap (λ i. built h rs (upd (upd (chains h rs) 0 y) i x)) (sym e) ∙ stamps_built h rs z x y
-
-  pub aggregate_state : 11 ≡ k → state_from (put_two h 0 a n k b m) rs' ≡ with_free (with_aggregates (state_from h rs) (map held_aggregate x)) (map place_of y)
-  unfolding state_from
-  aggregate_state e = two_built h rs rs' 0 a n k b m y x t ∙ ap (λ i. built h rs (upd (upd (chains h rs) 0 y) i x)) (sym e)
-
-module _ (h rs rs' : List ℕ) (j a n k b m : ℕ) (y x : List Node) (t : TwoChains h rs rs' j a n k b m y x) where
-  pub moved_state :
-      (z : Side) → chain_no z blocking ≡ j → chain_no z bypassable ≡ k
-      → state_from (put_two h j a n k b m) rs'
-      ≡ with_side (state_from h rs) z (with_queues (side (state_from h rs) z) (with_queue (with_queue (side (state_from h rs) z).queues blocking (map (held_event z) y)) bypassable (map (held_event z) x)))
-  moved_state z ej ek =
-      two_built h rs rs' j a n k b m y x t ∙ ap₂ (λ p q. built h rs (upd (upd (chains h rs) p y) q x)) (sym ej) (sym ek) ∙ moved_built h rs z x y

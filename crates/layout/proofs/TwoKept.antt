@@ -1,20 +1,15 @@
 -- Words stay accepted where chains j and k are given anew (TwoChains), each fit and in order, with the same records together. Assumes nothing.
 use Prim.Native.Nat.{ℕ, zero, suc, ◌+◌, ◌≤◌, ◌<◌, ◌/◌}
-use mathlib.Core.Path.{◌≡◌, sym, ap, ap₂, subst, ◌∙◌}
+use mathlib.Core.Path.{◌≡◌, sym, ap₂, subst, ◌∙◌}
 use mathlib.Core.List.{List}
 use native.Mathlib.Omega.{arith}
-use native.Mathlib.Decide.{ℕ_discrete}
 use lib.ListN.{length, get_or}
 use Rattle.queue_event.specs.Words.{next_of}
 use Rattle.queue_event.specs.Chain.{rec_at, Node, nodes, Is, Chain as LinkedFrom}
-use Rattle.layout.specs.Header.{reserved}
 use Rattle.layout.specs.Records.{chain_count, head_of, count_of, machines_for, RecordShape, Fit, Ordered, ChainOk, counts_to}
-use Rattle.layout.specs.Accepted.{Good, room}
+use Rattle.layout.specs.Accepted.{Good}
 use Rattle.layout.specs.Changes.{put_chain, put_two, TwoChains}
-use Rattle.layout.proofs.Order.{free_order}
-use Rattle.layout.proofs.ChainWords.{length_chain, count_other, sum_above, count_le, Beside, beside_chain, beside_copied, Copied, limits_copied, slots_copied, machines_copied, reserve_copied}
-use Rattle.layout.proofs.TwoChains.{count_one, head_one, count_two, head_two, count_else, head_else}
-use Rattle.layout.proofs.Counts.{reserve_state}
+use Rattle.layout.proofs.ChainWords.{length_chain, count_other, sum_above, count_le, Beside, beside_chain, beside_copied, Copied, machines_copied}
 
 -- a chain of number k that holds l is in order, where l is fit and in order
 pub is_ok :
@@ -64,40 +59,3 @@ module _ (h rs rs' : List ℕ) (j a n k b m : ℕ) (y x : List Node) (t : TwoCha
 
   machined : (i : ℕ) → i < chain_count → (l : List Node) → Fit i (machines_for h i) l → Fit i (machines_for (put_two h j a n k b m) i) l
   machined i s l = subst (λ c. Fit i c l) (sym (machines_copied h (put_two h j a n k b m) two_copied i s))
-
-  chain_after : (i : ℕ) → i < chain_count → ChainOk (put_two h j a n k b m) rs' i
-  chain_after i l = go (ℕ_discrete i k) (ℕ_discrete i j)
-    where
-      go : Dec (i ≡ k) → Dec (i ≡ j) → ChainOk (put_two h j a n k b m) rs' i
-      go (yes e) d =
-          subst (ChainOk (put_two h j a n k b m) rs') (sym e)
-          (is_ok (put_two h j a n k b m) rs' k m b x (count_two h j a n k b m t.wide t.one_small t.other_small t.differ) (head_two h j a n k b m t.wide t.one_small t.other_small t.differ) t.other
-          (machined k t.other_small x fit-x) order-x (counted k t.other_small))
-      go (no dk) (yes e) =
-          subst (ChainOk (put_two h j a n k b m) rs') (sym e)
-          (is_ok (put_two h j a n k b m) rs' j n a y (count_one h j a n k b m t.wide t.one_small t.other_small t.differ) (head_one h j a n k b m t.wide t.one_small t.other_small t.differ) t.one
-          (machined j t.one_small y fit-y) order-y (counted j t.one_small))
-      go (no dk) (no dj) =
-          is_ok (put_two h j a n k b m) rs' i (count_of h i) (head_of h i) _ (count_else h j a n k b m t.wide t.one_small t.other_small t.differ i dk dj) (head_else h j a n k b m t.wide t.one_small t.other_small t.differ i dk dj) (t.others i l dk dj)
-          (machined i l _ (g.chains i l).fit) (g.chains i l).order (counted i l)
-
-  -- the room is kept where what is free is not less than what is reserved
-  pub two_good : reserved h ≤ count_of (put_two h j a n k b m) 0 → Good (put_two h j a n k b m) rs'
-  two_good fits =
-      record {
-        limits = limits_copied h (put_two h j a n k b m) two_copied g.limits;
-        slots = slots_copied h (put_two h j a n k b m) two_copied g.slots;
-        chains = chain_after;
-        counts = sum_after;
-        reserve = reserve_state (put_two h j a n k b m) rs' sum_after (omega (arith, reserve_copied h (put_two h j a n k b m) two_copied, counted 0 (omega arith)));
-      }
-    where
-      sum_after : counts_to (put_two h j a n k b m) chain_count ≡ room rs'
-      sum_after = two_sum ∙ g.counts ∙ ap (λ l. l / 4) (sym t.len)
-
--- with the free chain as the one
-module _ (h rs rs' : List ℕ) (a n k b m : ℕ) (y x : List Node) (t : TwoChains h rs rs' 0 a n k b m y x) (g : Good h rs) where
-  pub freed_good : n + m ≡ count_of h 0 + count_of h k → Fit k (machines_for h k) x → Ordered k 0 0 x → reserved h ≤ n → Good (put_two h 0 a n k b m) rs'
-  freed_good sum f o fits =
-      two_good h rs rs' 0 a n k b m y x t g sum (free_fit rs' _ n a y t.one) (free_order 0 0 y) f o
-      (subst (λ c. reserved h ≤ c) (sym (count_one h 0 a n k b m t.wide t.one_small t.other_small t.differ)) fits)

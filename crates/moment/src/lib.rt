@@ -18,6 +18,7 @@ pub struct Time {
 }
 
 // A side's sum of delays, which may be added to any moment within the limit.
+// A type beside Span: one over its limit as a const parameter would have the number in every signature.
 #[derive(Clone, Copy)]
 pub struct Sum {
     pub length: Length,
@@ -46,6 +47,16 @@ impl Moment {
         ensures { result ≡ leb self.0 moment_limit }
     {
         self <= Moment::limit()
+    }
+
+    // The moment as a time, if it is within the limit.
+    pub fn limited(self) -> Option<Time>
+        ensures { MatchOption result (moment_limit < self.0) (λ t. t.at ≡ self) }
+    {
+        if !self.fits() {
+            return None;
+        }
+        Some(Time { at: self })
     }
 
     // The length from `earlier` to this moment; 0 where `earlier` is later.
@@ -78,6 +89,7 @@ impl Moment {
     }
 
     // The word of a moment that may be none: one more, since 0 is none.
+    // No From: it would not say that 0 stands for none.
     pub fn stored(self) -> u64
         requires { self.0 + 1 < 2 ^ 64 }
         ensures { result ≡ self.0 + 1 }
@@ -89,10 +101,7 @@ impl Moment {
     pub fn from_stored(word: u64) -> Option<Moment>
         ensures { MatchOption result (word ≡ 0) (λ m. m.0 + 1 ≡ word) }
     {
-        if word == 0 {
-            return None;
-        }
-        Some(Moment(word - 1))
+        word.checked_sub(1).map(Moment)
     }
 }
 

@@ -83,3 +83,11 @@ fits_append (n ∷ a) b = go (leb n moment_limit) (fits_append a b)
     go : (t : Bool) → fits (a ++ b) ≡ fits a && fits b → t && fits (a ++ b) ≡ (t && fits a) && fits b
     go true e = e
     go false e = refl
+
+-- by whether the first fit, and the others
+module _ (one more : List ℕ) (a : Bool) (ea : a ≡ fits one) where
+  pub fits_then : (b : Bool) → b ≡ fits more → a ≡ true → b ≡ fits (one ++ more)
+  fits_then b eb t = eb ∙ ap (λ x. x && fits more) (sym t ∙ ea) ∙ sym (fits_append one more)
+
+  pub fits_else : a ≡ false → a ≡ fits (one ++ more)
+  fits_else t = t ∙ ap (λ x. x && fits more) (sym t ∙ ea) ∙ sym (fits_append one more)

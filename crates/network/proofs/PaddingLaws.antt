@@ -1,8 +1,8 @@
 -- Laws of a step of `PaddingSent`: its plan as the code makes it, and the rules' step by that plan. Assumes nothing.
 use Prim.Native.Nat.{ℕ, ◌≤◌}
 use mathlib.Core.Path.{◌≡◌, refl, sym, ap, ap₂, ◌∙◌, subst}
-use mathlib.Core.Bool.{Bool, true, false, ◌&&◌}
-use mathlib.Core.List.{List}
+use mathlib.Core.Bool.{Bool, true, false}
+use mathlib.Core.List.{List, ◌++◌}
 use mathlib.Core.Logic.{◌⊎◌, inl, inr}
 use mathlib.Core.Option.{Option as RulesOption, none, some}
 use native.Mathlib.Omega.{arith}
@@ -16,12 +16,13 @@ use Rattle.rules.specs.ChoiceRound.{fits, lift_event, pop_side}
 use Rattle.rules.specs.NetworkStep.{as_padding, replace_by, replacing, step_padding, unmoved}
 use Rattle.event.specs.declared.SimEvent.{SimEvent}
 use Rattle.event.specs.HandedIn.{side_of}
-use Rattle.layout.specs.Layout.{state_from}
 use Rattle.queue.specs.declared.peek.Head.{Head as HeadFound}
 use Rattle.queue.specs.declared.header.Queue.{Queue}
 use Rattle.queue.specs.Queues.{queue_of}
-use Rattle.queue.specs.Views.{moment_no}
-use Rattle.queue.specs.Heads.{head_from, found_of, side_held, HeadOk, Peeked}
+use Rattle.queue.specs.Views.{moment_no, state_in, side_in, side_at}
+use Rattle.queue.specs.declared.view.SideView.{SideView}
+use Rattle.queue.specs.declared.view.Words.{Words}
+use Rattle.queue.specs.Heads.{head_from, found_of, side_held, HeadOk, Peeked, PeekedIn}
 use Rattle.delay.specs.declared.Margins.{Margins}
 use Rattle.delay.specs.declared.Tested.{Tested}
 use Rattle.delay.specs.Tests.{delayed_of, usual_margins, without, Packets, replace_over, sums_over, TestedAs}
@@ -32,7 +33,6 @@ use Rattle.network.specs.declared.padding.Padding.{Padding}
 use Rattle.network.specs.declared.padding.Padding.TheVariants.{Own, Dropped, Replaces}
 use Rattle.network.specs.Due.{moments}
 use Rattle.network.specs.Plans.{padded_of, PaddingPlan, own, dropped, takes, padding_of, takes_from, taken_over, plan_replacing, padding_plan, padding_sums, padding_records, padding_step, PaddingAs, TakenAs}
-use Rattle.network.proofs.DueLaws.{fits_append}
 use Rattle.network.proofs.WaitLaws.{waits_in}
 
 -- ---- the rules' step by its plan
@@ -82,7 +82,7 @@ without_sum x q = refl
 
 pub replaced : (z : SideState) (now sum : ℕ) (y : HeadFound) (m : Margins) (t : Tested) → m ≡ usual_margins → sum ≡ z.sum
     → TestedAs t (replace_over m sum (without z y.queue) now y.event.moment.0) (sums_over m sum (without z y.queue) y.event.moment.0)
-    → TakenAs (record { head = y; by = t.by; base = t.base }) z now y
+    → TakenAs (record { head = y; tested = t }) z now y
 unfolding padding_of taken_over head_from
 replaced z now sum y m t em es et = record { is = ap₂ (takes (head_from y)) found formed; head = refl }
   where
@@ -120,51 +120,66 @@ dropped_as p e = record { is = e; number = λ x q. absurd (let z : ◌≡◌ {A 
 replaced_one : (v x : Replaced) → Replaces v ≡ Replaces x → v ≡ x
 replaced_one v x e = cc
 
-module _ (h rs : List ℕ) (e : SimEvent) (now : ℕ) where
-  pub plan_own : e.replace ≡ false → PaddingAs Own (padding_plan (state_from h rs) now (padded_of e))
-  unfolding padding_plan
-  plan_own r = own_as _ (sym (ap (λ t. if t then plan_replacing (state_from h rs) now (padded_of e) (waiting_head (side_held h rs e.client).block_bypassable (side_held h rs e.client)) else own) r))
+module _ (w : Words) (e : SimEvent) (now : ℕ) where
+  abbrev held : State
+  held = state_in w
 
-  module _ (r : e.replace ≡ true) (t : Bool) (et : t ≡ (side (state_from h rs) (side_of e.client)).block_bypassable) (f : Option HeadFound) (p : Peeked h rs e.client f (waiting_head t (side_held h rs e.client))) where
-    plan_is : plan_replacing (state_from h rs) now (padded_of e) (found_of f) ≡ padding_plan (state_from h rs) now (padded_of e)
+  abbrev own_side : SideState
+  own_side = side_in w e.client
+
+  pub plan_own : e.replace ≡ false → PaddingAs Own (padding_plan held now (padded_of e))
+  unfolding padding_plan
+  plan_own r = own_as _ (sym (ap (λ t. if t then plan_replacing held now (padded_of e) (waiting_head own_side.block_bypassable own_side) else own) r))
+
+  -- v is the event's side of these words, and f its first packet that waits
+  module _ (r : e.replace ≡ true) (t : Bool) (et : t ≡ own_side.block_bypassable) (v : SideView) (ev : v.view.words ≡ w) (ec : v.client ≡ e.client)
+      (f : Option HeadFound) (q : PeekedIn v.view.words v.client f (waiting_head t (side_at v))) where
+    p : PeekedIn w e.client f (waiting_head t own_side)
+    p = rw (ev, ec) at q
+
+    plan_is : plan_replacing held now (padded_of e) (found_of f) ≡ padding_plan held now (padded_of e)
     unfolding padding_plan
     plan_is =
-        ap (plan_replacing (state_from h rs) now (padded_of e)) (p.is ∙ ap (λ b. waiting_head b (side_held h rs e.client)) et)
-        ∙ sym (ap (λ b. if b then plan_replacing (state_from h rs) now (padded_of e) (waiting_head (side_held h rs e.client).block_bypassable (side_held h rs e.client)) else own) r)
+        ap (plan_replacing held now (padded_of e)) (p.is ∙ ap (λ b. waiting_head b own_side) et)
+        ∙ sym (ap (λ b. if b then plan_replacing held now (padded_of e) (waiting_head own_side.block_bypassable own_side) else own) r)
 
-    pub plan_none : f ≡ None → PaddingAs Own (padding_plan (state_from h rs) now (padded_of e))
+    pub plan_none : f ≡ None → PaddingAs Own (padding_plan held now (padded_of e))
     unfolding found_of
-    plan_none ef = own_as _ (sym (ap (λ x. plan_replacing (state_from h rs) now (padded_of e) (found_of x)) ef) ∙ plan_is)
+    plan_none ef = own_as _ (sym (ap (λ x. plan_replacing held now (padded_of e) (found_of x)) ef) ∙ plan_is)
 
     module _ (y : HeadFound) (ef : f ≡ Some y) where
       -- by the packet's padding flag and the event's bypass flag
       ways : Bool → Bool → PaddingPlan
-      ways a b = if a then own else if b then takes_from (side (lift_event (state_from h rs) (head_from y)) (side_of y.event.client)) now (head_from y) else dropped
+      ways a b = if a then own else if b then takes_from (side (lift_event held (head_from y)) (side_of y.event.client)) now (head_from y) else dropped
 
-      ways_is : ways y.event.padding e.bypass ≡ padding_plan (state_from h rs) now (padded_of e)
+      ways_is : ways y.event.padding e.bypass ≡ padding_plan held now (padded_of e)
       unfolding ways found_of head_from
-      ways_is = sym (ap (λ x. plan_replacing (state_from h rs) now (padded_of e) (found_of x)) ef) ∙ plan_is
+      ways_is = sym (ap (λ x. plan_replacing held now (padded_of e) (found_of x)) ef) ∙ plan_is
 
-      pub plan_padding : y.event.padding ≡ true → PaddingAs Own (padding_plan (state_from h rs) now (padded_of e))
+      pub plan_padding : y.event.padding ≡ true → PaddingAs Own (padding_plan held now (padded_of e))
       unfolding ways
       plan_padding a = own_as _ (sym (ap (λ x. ways x e.bypass) a) ∙ ways_is)
 
-      pub plan_dropped : y.event.padding ≡ false → e.bypass ≡ false → PaddingAs Dropped (padding_plan (state_from h rs) now (padded_of e))
+      pub plan_dropped : y.event.padding ≡ false → e.bypass ≡ false → PaddingAs Dropped (padding_plan held now (padded_of e))
       unfolding ways
       plan_dropped a b = dropped_as _ (sym (ap₂ ways a b) ∙ ways_is)
 
-      pub plan_taken : (v : Replaced) → y.event.padding ≡ false → e.bypass ≡ true → TakenAs v (side (state_from h rs) (side_of e.client)) now y → PaddingAs (Replaces v) (padding_plan (state_from h rs) now (padded_of e))
+      pub plan_taken : (x : Replaced) → y.event.padding ≡ false → e.bypass ≡ true → TakenAs x (side_at v) now y → PaddingAs (Replaces x) (padding_plan held now (padded_of e))
       unfolding ways taken_over head_from
-      plan_taken v a b tv =
+      plan_taken x a b tv =
           record {
-            is = tv.is ∙ ap (λ x. takes_from x now (head_from y)) side_is ∙ sym (ap₂ ways a b) ∙ ways_is;
-            number = λ x q. subst (λ (z : HeadFound). z.event.kind.0 ≤ 9) (sym tv.head ∙ ap (λ (z : Replaced). z.head) (replaced_one v x q)) (stands h rs e.client t f y ef p).kind;
+            is = taken.is ∙ ap (λ x. takes_from x now (head_from y)) side_is ∙ sym (ap₂ ways a b) ∙ ways_is;
+            number = λ z q. subst (λ (z : HeadFound). z.event.kind.0 ≤ 9) (sym taken.head ∙ ap (λ (z : Replaced). z.head) (replaced_one x z q)) ok.kind;
           }
         where
-          side_is : without (side (state_from h rs) (side_of e.client)) y.queue ≡ side (lift_event (state_from h rs) (head_from y)) (side_of y.event.client)
-          side_is =
-              ap (λ c. without (side (state_from h rs) (side_of c)) y.queue) (sym (stands h rs e.client t f y ef p).side)
-              ∙ sym (lifted_is (state_from h rs) (head_from y) y.queue refl)
+          taken : TakenAs x own_side now y
+          taken = rw (ev, ec) at tv
+
+          ok : HeadOk w.header.now w.records.now e.client y
+          ok = stands w.header.now w.records.now e.client t f y ef p
+
+          side_is : without own_side y.queue ≡ side (lift_event held (head_from y)) (side_of y.event.client)
+          side_is = ap (λ c. without (side_in w c) y.queue) (sym ok.side) ∙ sym (lifted_is held (head_from y) y.queue refl)
 
 -- ---- records_for, fit
 
@@ -177,7 +192,7 @@ module _ (p : Padding) where
   unfolding padding_of
   records_dropped e = sym (ap (λ x. padding_records (padding_of x)) e)
 
-  pub records_taken_lem : (r : Replaced) (n : ℕ) → p ≡ Replaces r → ((d : ℕ) (z : Side) (at : ℕ) → n ≡ length (aggregates_of d z at (delayed_of r.by))) → n ≡ padding_records (padding_of p)
+  pub records_taken_lem : (r : Replaced) (n : ℕ) → p ≡ Replaces r → ((d : ℕ) (z : Side) (at : ℕ) → n ≡ length (aggregates_of d z at (delayed_of r.tested.by))) → n ≡ padding_records (padding_of p)
   unfolding padding_of
   records_taken_lem r n e q = q 0 client 0 ∙ sym (ap (λ x. padding_records (padding_of x)) e)
 
@@ -187,15 +202,7 @@ module _ (p : Padding) where
     fit_none (inl e) = sym (ap (λ x. fits (padding_sums d now (padding_of x))) e)
     fit_none (inr e) = sym (ap (λ x. fits (padding_sums d now (padding_of x))) e)
 
-module _ (r : Replaced) (d now : ℕ) (a : Bool) (ea : a ≡ fits (some_sum (moment_no r.base))) where
-  fit_is : fits (padding_sums d now (padding_of (Replaces r))) ≡ a && fits (moments (aggregates_of d (side_of r.head.event.client) now (delayed_of r.by)))
-  unfolding padding_of head_from
-  fit_is =
-      fits_append (some_sum (moment_no r.base)) (moments (aggregates_of d (side_of r.head.event.client) now (delayed_of r.by)))
-      ∙ ap (λ x. x && fits (moments (aggregates_of d (side_of r.head.event.client) now (delayed_of r.by)))) (sym ea)
-
-  pub fit_due : (b : Bool) → b ≡ fits (moments (aggregates_of d (side_of r.head.event.client) now (delayed_of r.by))) → a ≡ true → b ≡ fits (padding_sums d now (padding_of (Replaces r)))
-  fit_due b eb t = eb ∙ sym (fit_is ∙ ap (λ x. x && fits (moments (aggregates_of d (side_of r.head.event.client) now (delayed_of r.by)))) t)
-
-  pub fit_formed : a ≡ false → a ≡ fits (padding_sums d now (padding_of (Replaces r)))
-  fit_formed t = t ∙ sym (fit_is ∙ ap (λ x. x && fits (moments (aggregates_of d (side_of r.head.event.client) now (delayed_of r.by)))) t)
+    pub fit_taken : (r : Replaced) (b : Bool) → p ≡ Replaces r → b ≡ fits (some_sum (moment_no r.tested.base) ++ moments (aggregates_of d (side_of r.head.event.client) now (delayed_of r.tested.by)))
+        → b ≡ fits (padding_sums d now (padding_of p))
+    unfolding padding_of head_from
+    fit_taken r b e q = q ∙ sym (ap (λ x. fits (padding_sums d now (padding_of x))) e)

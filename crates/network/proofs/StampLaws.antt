@@ -1,26 +1,29 @@
 -- Laws of the window of stamps, and of the delay that a full one adds. Assumes nothing.
-use Prim.Native.Nat.{ℕ, zero, suc, ◌+◌, ◌-◌, ◌*◌, ◌/◌, ◌≤◌, ◌<◌}
+use Prim.Native.Nat.{ℕ, zero, suc, ◌+◌, ◌-◌, ◌*◌, ◌/◌, ◌^◌, ◌≤◌, ◌<◌}
 use mathlib.Core.Path.{◌≡◌, refl, sym, ap, ◌∙◌}
-use mathlib.Core.Bool.{Bool, true, false, not}
+use mathlib.Core.Bool.{Bool, true, false, not, cond}
 use mathlib.Core.List.{List, [], ◌∷◌, map}
-use mathlib.Core.Logic.{◌⊎◌, inl, inr}
 use mathlib.Core.Option.{Option as RulesOption, none, some}
 use native.Mathlib.Nat.{mul-le-mul, div-le_self}
 use native.Mathlib.Omega.{arith}
 use lib.Dec.{ltb}
-use lib.ListN.{length}
+use lib.ListN.{length, take}
 use borrow.Author.Tests.{lt-ltb, ne_eqb}
 use Rattle.std.specs.Prelude.{if◌then◌else◌, nat_eq, Option, Some}
 use Rattle.std.specs.Bool.{then_some}
 use Rattle.std.specs.Option.{option_or}
+use Rattle.std.specs.List.{prefix_len}
+use Rattle.std.proofs.lemmas.Iterator.{YieldsList}
+use Rattle.std.proofs.lemmas.Iterator.Consumers.{YieldsList-from_shown}
 use Rattle.rules.specs.Basics.{Side, client, server}
 use Rattle.rules.specs.State.{Held, side}
 use Rattle.rules.specs.Limits.{duration_limit}
 use Rattle.rules.specs.NetworkStep.{stamps_kept, extra_over, rate_of}
 use Rattle.moment.specs.declared.Length.{Length}
-use Rattle.queue_event.specs.Words.{moment_of}
-use Rattle.queue_event.specs.Chain.{Node, rec_at}
+use Rattle.queue_event.specs.Chain.{Node}
 use Rattle.queue_event.specs.Frame.{node}
+use Rattle.queue_event.specs.Walks.{left, Walked}
+use Rattle.queue_event.specs.declared.chain.Linked.{Linked}
 use Rattle.layout.specs.Records.{head_of, count_of, chain_at}
 use Rattle.layout.specs.Accepted.{Good}
 use Rattle.layout.specs.Layout.{state_from, chains, held_stamp, unless_zero}
@@ -28,7 +31,7 @@ use Rattle.layout.specs.Changes.{side_no}
 use Rattle.queue.specs.Stamps.{stale_count}
 use Rattle.layout.proofs.Banks.{chains_at}
 use Rattle.layout.proofs.Counts.{length_map, length_nodes}
-use Rattle.network.specs.Stamps.{limit_of, Above, RatedAs, evicted_count, Ages, FilledAs}
+use Rattle.network.specs.Stamps.{limit_of, Above, RatedAs, evicted_count, FilledAs}
 
 -- ---- rate_of
 
@@ -106,36 +109,32 @@ module _ (h rs : List ℕ) (z : Side) (k : ℕ) (ek : k ≡ 5 + 5 * side_no z) (
 
 -- ---- the walk
 
-pub ages_start :
-    (h rs : List ℕ) (z : Side) (k : ℕ) → k ≡ 5 + 5 * side_no z → k ≤ 10 → (xs : List Node) (w now n : ℕ) → xs ≡ chain_at h rs k → n ≡ count_of h k
-    → Ages w now (evicted_count w now (side (state_from h rs) z).stamps) n 0 xs
-ages_start h rs z k ek lk xs w now n e en =
-    record { rest = omega (arith, stale_is h rs z k ek lk xs w now (stale_count w now (map held_stamp xs)) e refl); all = omega (arith, ap length e, length_nodes rs (count_of h k) (head_of h k), en) }
+-- whether a record is too old to stay
+abbrev pub too_old : ℕ → ℕ → Node → Bool
+too_old w now x = ltb w (now - x.rec.moment)
 
-module _ (w now goal count gone : ℕ) (l x : List Node) (a : Ages w now goal count gone l) where
-  none_left : gone ≡ count → count ≡ goal
-  none_left e = go l a (omega (arith, a.all))
-    where
-      go : (k : List Node) → Ages w now goal count gone k → length k ≡ 0 → count ≡ goal
-      go [] b z = omega (arith, b.rest)
-      go (y ∷ k) b z = absurd (omega arith)
+pub walked : (s : Linked) → YieldsList Walked (λ r. node r.records.now r.at) s (left s)
+walked s = YieldsList-from_shown Walked (λ r. node r.records.now r.at) left (λ t u h. ap length h.0) (λ t x u h. h.0 ∙ ap (λ rs. node rs x.at ∷ left u) (sym h.1)) s
 
-  -- one of the two that are walked together, the numbers and the chain, has ended
-  pub ages_end : {A B : Type 0} {P : A → Type 0} {Q : B → Type 0} → (e : ℕ) → e ≡ count → ((u : A) × P u) ⊎ ((v : B) × Q v) → ((u : A) → P u → e - gone ≡ 0) → ((v : B) → Q v → l ≡ []) → count ≡ goal
-  ages_end e ee (inl s) f g = none_left (omega (arith, f s.0 s.1, a.all))
-  ages_end e ee (inr s) f g = none_left (omega (arith, a.all, ap length (g s.0 s.1)))
+pub walk_fits : (h rs : List ℕ) (k : ℕ) (s t : Linked) → Good h rs → k ≤ 10 → left s ≡ chain_at h rs k → t ≡ s → length rs < 2 ^ 64 → 0 + length (left t) < 2 ^ 64
+walk_fits h rs k s t g lk e et l =
+    let small : count_of h k ≤ length rs / 4 = (g.chains k (omega arith)).count in
+    let n : length (left t) ≡ count_of h k = ap (λ (x : Linked). length (left x)) et ∙ ap length e ∙ length_nodes rs (count_of h k) (head_of h k) in
+    omega (arith, n, small, l)
 
-  -- the first of what is left is record r of rs
-  module _ (rs rs' : List ℕ) (r m i : ℕ) (b : Bool) (e : l ≡ node rs r ∷ x) (er : rs' ≡ rs) (ei : i ≡ gone) (em : m ≡ moment_of rs' r) (eb : b ≡ ltb w (now - m)) where
-    ages_step : gone + (if b then suc (stale_count w now (map held_stamp x)) else 0) ≡ goal
-    unfolding rec_at
-    ages_step = ap (λ c. gone + (if c then suc (stale_count w now (map held_stamp x)) else 0)) (rw (em, er) at eb) ∙ ap (λ y. gone + stale_count w now (map held_stamp y)) (sym e) ∙ a.rest
+gone_is : (w now : ℕ) (l : List Node) → length (take (prefix_len (too_old w now) l) l) ≡ stale_count w now (map held_stamp l)
+gone_is w now [] = refl
+gone_is w now (x ∷ l) = go (too_old w now x) (gone_is w now l)
+  where
+    go : (b : Bool) → length (take (prefix_len (too_old w now) l) l) ≡ stale_count w now (map held_stamp l)
+        → length (take (cond b (1 + prefix_len (too_old w now) l) 0) (x ∷ l)) ≡ (if b then suc (stale_count w now (map held_stamp l)) else 0)
+    go true e = let one : 1 + prefix_len (too_old w now) l ≡ suc (prefix_len (too_old w now) l) = omega arith in ap (λ n. length (take n (x ∷ l))) one ∙ ap (λ n. suc n) e
+    go false e = refl
 
-    pub ages_stop : b ≡ false → i ≡ goal
-    ages_stop t = let s = rw t at ages_step in omega (arith, s)
-
-    pub ages_turn : (j : ℕ) → b ≡ true → j ≡ gone + 1 → Ages w now goal count j x
-    ages_turn j t ej = let s = rw t at ages_step in record { rest = omega (arith, s); all = omega (arith, a.all, ap length e) }
+-- the walk over the stamps of a side ends at the first that is not
+pub gone_all : (h rs : List ℕ) (z : Side) (k : ℕ) → k ≡ 5 + 5 * side_no z → k ≤ 10 → (xs : List Node) (w now n : ℕ) → xs ≡ chain_at h rs k
+    → n ≡ length (take (prefix_len (too_old w now) xs) xs) → n ≡ evicted_count w now (side (state_from h rs) z).stamps
+gone_all h rs z k ek lk xs w now n e en = stale_is h rs z k ek lk xs w now n e (en ∙ gone_is w now xs)
 
 -- ---- fill
 

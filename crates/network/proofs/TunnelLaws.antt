@@ -19,17 +19,18 @@ use Rattle.rules.specs.NetworkStep.{stamps_kept, extra_over, packet, rate_of, re
 use Rattle.moment.specs.declared.Length.{Length}
 use Rattle.moment.specs.declared.Span.{Span}
 use Rattle.moment.specs.declared.Sum.{Sum}
-use Rattle.moment.specs.declared.Moment.{Moment}
 use Rattle.event.specs.declared.SimEvent.{SimEvent}
 use Rattle.event.specs.HandedIn.{side_of}
 use Rattle.layout.specs.Layout.{bank, state_from, unless_zero}
 use Rattle.event.specs.Values.{event_value}
-use Rattle.queue.specs.Views.{moment_no}
+use Rattle.queue.specs.Heads.{side_held}
+use Rattle.queue.specs.Views.{moment_no, state_in, side_at}
+use Rattle.queue.specs.declared.view.SideView.{SideView}
+use Rattle.queue.specs.declared.view.Words.{Words}
 use Rattle.delay.specs.declared.Margins.{Margins}
 use Rattle.delay.specs.declared.Asked.{Asked}
 use Rattle.delay.specs.declared.Tested.{Tested}
 use Rattle.delay.specs.Tests.{delayed_of, usual_margins, delayed_over, sums_over, TestedAs, AskedAs}
-use Rattle.layout.specs.Changes.{side_no}
 use Rattle.layout.proofs.Banks.{bank_at}
 use Rattle.delay.proofs.Rules.{delayed_usual, sums_usual}
 use Rattle.network.specs.declared.window.Filled.{Filled}
@@ -38,7 +39,7 @@ use Rattle.network.specs.declared.tunnel.Tunnel.{Tunnel}
 use Rattle.network.specs.Due.{moments}
 use Rattle.network.specs.Stamps.{limit_of, RatedAs, FilledAs, evicted_count}
 use Rattle.network.specs.Plans.{sent_of, LinkAs, tested_by, tested_sums, tunnel_of, extra_at, received_as, tunnel_with, tunnel_plan, tunnel_sums, tunnel_step}
-use Rattle.network.proofs.DueLaws.{and_one, fits_append}
+use Rattle.network.proofs.DueLaws.{and_one, fits_then, fits_else}
 
 -- ---- the rules' step by its plan
 
@@ -56,33 +57,27 @@ tunnel_sums_lem s now e = ap (λ r. fits r.sums) (sym (tunnel_step_lem s now e))
 
 -- ---- link_of
 
+other_side : (c : Bool) → side_of (not c) ≡ other (side_of c)
+other_side true = refl
+other_side false = refl
+
 -- a word from 0 to 23 of the header
 word_at : (h : List ℕ) (i : ℕ) → i < 24 → get_or h (0 + i) 0 ≡ bank 0 24 h i
 word_at h i l = sym (bank_at 0 24 h i l)
 
-pub network_held : (h rs : List ℕ) → get_or h 0 0 ≡ (state_from h rs).settings.network_delay
-unfolding state_from
-network_held h rs = word_at h 0 (lit< tt)
-
-module _ (h rs : List ℕ) (c : Bool) where
-  reporting_held : get_or h (6 + side_no (side_of (not c))) 0 ≡ (side (state_from h rs) (other (side_of c))).fixed.reporting_delay
+-- v is the client's side of the words w
+module _ (w : Words) (c : Bool) (v : SideView) (ew : v.view.words ≡ w) (ec : v.client ≡ true) where
+  pub link_as : (d n r : Span) (sum : Sum) (rate : Option ℕ) → d.length.0 ≡ (state_in w).settings.network_delay → ((rs : List ℕ) → n.length.0 ≡ (state_from w.header.now rs).settings.window)
+      → RatedAs rate (rate_of (unless_zero (get_or w.header.now 1 0)) (unless_zero (get_or w.header.now 2 0))) → sum.length.0 ≡ (side_at v).sum
+      → ((rs : List ℕ) → r.length.0 ≡ (side_held w.header.now rs (not c)).fixed.reporting_delay)
+      → LinkAs (record { delay = d; window = n; rate = rate; sum = sum; reporting = r }) (state_in w) (side_of c)
   unfolding state_from
-  reporting_held = go c
-    where
-      go : (b : Bool) → get_or h (6 + side_no (side_of (not b))) 0 ≡ (side (state_from h rs) (other (side_of b))).fixed.reporting_delay
-      go true = word_at h 7 (lit< tt)
-      go false = word_at h 6 (lit< tt)
-
-  pub link_as : (d w r : Span) (sum : Sum) (rate : Option ℕ) → d.length.0 ≡ (state_from h rs).settings.network_delay → w.length.0 ≡ get_or h 3 0
-      → RatedAs rate (rate_of (unless_zero (get_or h 1 0)) (unless_zero (get_or h 2 0))) → sum.length.0 ≡ (state_from h rs).client.sum → r.length.0 ≡ get_or h (6 + side_no (side_of (not c))) 0
-      → LinkAs (record { delay = d; window = w; rate = rate; sum = sum; reporting = r }) (state_from h rs) (side_of c)
-  unfolding state_from
-  link_as d w r sum rate ed ew q es er = record {
+  link_as d n r sum rate ed en q es er = record {
     delay = ed;
-    window = ew ∙ word_at h 3 (lit< tt);
-    rate = q.is ∙ ap₂ (λ a b. rate_of (unless_zero a) (unless_zero b)) (word_at h 1 (lit< tt)) (word_at h 2 (lit< tt));
-    sum = es;
-    reporting = er ∙ reporting_held;
+    window = en w.records.now;
+    rate = q.is ∙ ap₂ (λ a b. rate_of (unless_zero a) (unless_zero b)) (word_at w.header.now 1 (lit< tt)) (word_at w.header.now 2 (lit< tt));
+    sum = rw (ew, ec) at es;
+    reporting = er w.records.now ∙ ap (λ z. (side (state_in w) z).fixed.reporting_delay) (other_side c);
     above = q.above;
   }
 
@@ -120,15 +115,6 @@ module _ (x : SideState) (sum u : ℕ) (extra : Length) where
 
 -- ---- arrival
 
-other_side : (c : Bool) → side_of (not c) ≡ other (side_of c)
-other_side true = refl
-other_side false = refl
-
-pub arrived : (e : SimEvent) (now network : ℕ) (reporting : Length) (m : Moment) → m.0 ≡ reported (sent_of e) now network reporting.0
-    → event_value (record { kind = record { 0 = 3 }; moment = m; delay = reporting; client = not e.client; padding = e.padding; bypass = false; replace = false; machine = 0 })
-    ≡ packet TunnelRecv (reported (sent_of e) now network reporting.0) reporting.0 (other (side_of e.client)) e.padding false false
-arrived e now network reporting m em = ap₂ (λ t z. packet TunnelRecv t reporting.0 z e.padding false false) em (other_side e.client)
-
 -- ---- plan
 
 module _ (l : Link) (s : State) (e : SimEvent) (now : ℕ) (f : Filled) (k : LinkAs l s (side_of e.client)) (ef : FilledAs f l.window.length.0 now (limit_of l.rate) (side s (side_of e.client)).stamps) where
@@ -138,7 +124,7 @@ module _ (l : Link) (s : State) (e : SimEvent) (now : ℕ) (f : Filled) (k : Lin
   pub planned : (t : Tested) (v : SimEvent) (n : ℕ) → TestedAs t (tested_by (side s (side_of e.client)) l.sum.length.0 e.moment.0 f.extra.0) (tested_sums (side s (side_of e.client)) l.sum.length.0 e.moment.0 f.extra.0)
       → n ≡ f.extra.0 + l.delay.length.0
       → event_value v ≡ packet TunnelRecv (reported (sent_of e) now n l.reporting.length.0) l.reporting.length.0 (other (side_of e.client)) e.padding false false
-      → tunnel_of (record { stale = f.stale; by = t.by; base = t.base; received = v }) ≡ tunnel_plan s now (sent_of e)
+      → tunnel_of (record { stale = f.stale; tested = t; received = v }) ≡ tunnel_plan s now (sent_of e)
   unfolding tunnel_plan
   planned t v n et en ev = λ i. record { stale = stale_is i; by = by_is i; formed = formed_is i; received = received_is i }
     where
@@ -162,31 +148,10 @@ module _ (l : Link) (s : State) (e : SimEvent) (now : ℕ) (f : Filled) (k : Lin
 
 -- ---- fit
 
-module _ (t : Tunnel) (d now : ℕ) (z : Side) where
-  due : Bool
-  due = fits (moments (aggregates_of d z now (delayed_of t.by)))
+module _ (t : Tunnel) (d now : ℕ) (z : Side) (v : Bool) (ev : v ≡ fits (some_sum (moment_no t.tested.base) ++ moments (aggregates_of d z now (delayed_of t.tested.by)))) where
+  pub fit_last : (c : Bool) → c ≡ leb t.received.moment.0 moment_limit → v ≡ true → c ≡ fits (tunnel_sums d z now (tunnel_of t))
+  unfolding fits
+  fit_last c ec p = fits_then (some_sum (moment_no t.tested.base) ++ moments (aggregates_of d z now (delayed_of t.tested.by))) (t.received.moment.0 ∷ []) v ev c (ec ∙ and_one (leb t.received.moment.0 moment_limit)) p
 
-  -- v: whether the first two fit
-  pub First : Bool → Type 0
-  First v = v ≡ fits (some_sum (moment_no t.base)) && due
-
-  pub both_then : (a b v : Bool) → a ≡ fits (some_sum (moment_no t.base)) → b ≡ fits (moments (aggregates_of d z now (delayed_of t.by))) → a ≡ true → v ≡ b → First v
-  unfolding First due
-  both_then a b v ea eb p e = e ∙ eb ∙ ap (λ x. x && due) (sym p ∙ ea)
-
-  pub both_else : (a v : Bool) → a ≡ fits (some_sum (moment_no t.base)) → a ≡ false → v ≡ a → First v
-  unfolding First due
-  both_else a v ea p e = e ∙ p ∙ ap (λ x. x && due) (sym p ∙ ea)
-
-  module _ (v : Bool) (ev : First v) where
-    by_first : fits (tunnel_sums d z now (tunnel_of t)) ≡ v && (leb t.received.moment.0 moment_limit && true)
-    unfolding fits First due
-    by_first =
-        fits_append (some_sum (moment_no t.base) ++ moments (aggregates_of d z now (delayed_of t.by))) (t.received.moment.0 ∷ [])
-        ∙ ap (λ x. x && (leb t.received.moment.0 moment_limit && true)) (fits_append (some_sum (moment_no t.base)) (moments (aggregates_of d z now (delayed_of t.by))) ∙ sym ev)
-
-    pub fit_last : (c : Bool) → c ≡ leb t.received.moment.0 moment_limit → v ≡ true → c ≡ fits (tunnel_sums d z now (tunnel_of t))
-    fit_last c ec p = ec ∙ and_one (leb t.received.moment.0 moment_limit) ∙ sym (by_first ∙ ap (λ x. x && (leb t.received.moment.0 moment_limit && true)) p)
-
-    pub fit_first : v ≡ false → v ≡ fits (tunnel_sums d z now (tunnel_of t))
-    fit_first p = p ∙ sym (by_first ∙ ap (λ x. x && (leb t.received.moment.0 moment_limit && true)) p)
+  pub fit_first : v ≡ false → v ≡ fits (tunnel_sums d z now (tunnel_of t))
+  fit_first p = fits_else _ (t.received.moment.0 ∷ []) v ev p

@@ -63,7 +63,7 @@ pub record TunnelPlan : Type 0 where
   pub received : Event
 
 abbrev pub tunnel_of : Tunnel → TunnelPlan
-tunnel_of t = record { stale = t.stale; by = delayed_of t.by; formed = some_sum (moment_no t.base); received = event_value t.received }
+tunnel_of t = record { stale = t.stale; by = delayed_of t.tested.by; formed = some_sum (moment_no t.tested.base); received = event_value t.received }
 
 -- what the window adds where it has c stamps
 abbrev pub extra_at : State → ℕ → ℕ
@@ -118,7 +118,7 @@ pub data PaddingPlan : Type 0 where
 unfoldable pub padding_of : Padding → PaddingPlan
 padding_of Own = own
 padding_of Dropped = dropped
-padding_of (Replaces r) = takes (head_from r.head) (delayed_of r.by) (some_sum (moment_no r.base))
+padding_of (Replaces r) = takes (head_from r.head) (delayed_of r.tested.by) (some_sum (moment_no r.tested.base))
 
 -- the packet h is out of its queue at side x
 abbrev pub takes_from : SideState → ℕ → Head → PaddingPlan

@@ -1,11 +1,8 @@
 -- The window of stamps, as the rules have it. Assumes nothing.
-use Rattle.std.specs.Prelude.{ℕ, ◌+◌, ◌-◌, ◌<◌, ◌≤◌, ◌≡◌, List, map, length, Option, Some, None}
+use Rattle.std.specs.Prelude.{ℕ, ◌+◌, ◌-◌, ◌<◌, ◌≤◌, ◌≡◌, List, length, Option, Some, None}
 use Rattle.std.proofs.Math.Option.{Option as RulesOption, none, some}
 use Rattle.rules.specs.State.{Held}
 use Rattle.rules.specs.NetworkStep.{stamps_kept, extra_over}
-use Rattle.queue_event.specs.Chain.{Node}
-use Rattle.layout.specs.Layout.{held_stamp}
-use Rattle.queue.specs.Stamps.{stale_count}
 use Rattle.network.specs.declared.window.Filled.{Filled}
 
 -- ---- the packet limit
@@ -28,11 +25,6 @@ pub record RatedAs (r : Option ℕ) (o : RulesOption ℕ) : Type 0 where
 -- how many go
 abbrev pub evicted_count : ℕ → ℕ → List (Held ℕ) → ℕ
 evicted_count window now l = length l - length (stamps_kept window now l)
-
--- at each turn of the walk that counts the same: gone are behind it, and l is left
-pub record Ages (window now goal count gone : ℕ) (l : List Node) : Type 0 where
-  pub rest : gone + stale_count window now (map held_stamp l) ≡ goal
-  pub all : gone + length l ≡ count
 
 -- ---- the window after a new stamp
 

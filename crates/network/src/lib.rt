@@ -4,7 +4,7 @@
 ghost use Rattle.std.specs.Prelude.{◌≡◌};
 ghost use Rattle.queue.specs.Views.{state_in};
 
-use moment::{Length, Span};
+use moment::{Span, Time};
 use queue::View;
 
 pub mod aggregate;
@@ -12,12 +12,16 @@ pub mod padding;
 pub mod tunnel;
 pub mod window;
 
+// The network delay, and the time from which it counts. No side is among them: it is the event's, or that of the packet which padding takes over.
+#[derive(Clone, Copy)]
+pub struct Lag {
+    pub delay: Span,
+    pub time: Time,
+}
+
 // The network delay.
-#[tactic(auto, using(crate::proofs::TunnelLaws::network_held))]
 pub fn network_delay(view: &View) -> Span
     ensures { result.length.0 ≡ (state_in view.now.words).settings.network_delay }
 {
-    Span {
-        length: Length(view.words.header[0]),
-    }
+    view.words.network_delay()
 }

@@ -2,22 +2,22 @@
 // step_padding, proofs/PaddingLaws that the step is this and no more.
 ghost use Rattle.std.specs.Prelude.{◌≡◌};
 ghost use Rattle.rules.specs.ChoiceRound.{fits};
-ghost use Rattle.queue.specs.Views.{state_in, side_in};
+ghost use Rattle.queue.specs.Views.{state_in, side_at};
 ghost use Rattle.delay.specs.Tests.{Packets};
 ghost use Rattle.network.specs.Plans.{padded_of, padding_of, padding_plan, padding_sums, padding_records, PaddingAs, TakenAs};
 
-use crate::aggregate;
+use crate::{Lag, aggregate};
+use delay::Tested;
 use event::SimEvent;
-use moment::{Length, Moment, Span, Time};
+use moment::Moment;
 use queue::peek::Head;
-use queue::{View, peek};
+use queue::{SideView, View};
 
 // A packet that is taken over, and what the test for an aggregate found.
 #[derive(Clone, Copy)]
 pub struct Replaced {
     pub head: Head,
-    pub by: Option<Length>,
-    pub base: Option<Moment>,
+    pub tested: Tested,
 }
 
 // What the step is to do.
@@ -29,24 +29,19 @@ pub enum Padding {
 }
 
 // The packet that waits is taken over.
-fn replacement(view: &View, h: Head, client: bool, time: Moment) -> Replaced
+fn replacement(side: &SideView, h: Head, time: Moment) -> Replaced
     requires { Packets h.queue }
-    ensures { TakenAs result (side_in view.now.words client) time.0 h }
+    ensures { TakenAs result (side_at side.now) time.0 h }
 {
     let tested = delay::agg_delay_on_padding_bypass_replace(
-        view,
+        side,
         h.queue,
-        client,
         time,
         h.event.moment,
-        delay::sum(view, client),
+        side.sum(),
         delay::usual(),
     );
-    Replaced {
-        head: h,
-        by: tested.by,
-        base: tested.base,
-    }
+    Replaced { head: h, tested }
 }
 
 // What the step is to do. No block is needed.
@@ -57,7 +52,8 @@ pub fn plan(view: &View, e: SimEvent, time: Moment) -> Padding
         return Padding::Own;
     }
     let bypassable = view.words.is_bypassable(e.client);
-    let Some(h) = peek::peek_blocking(view, bypassable, e.client) else {
+    let side = view.side(e.client);
+    let Some(h) = side.peek_blocking(bypassable) else {
         return Padding::Own;
     };
     if h.event.padding {
@@ -66,7 +62,7 @@ pub fn plan(view: &View, e: SimEvent, time: Moment) -> Padding
     if !e.bypass {
         return Padding::Dropped;
     }
-    Padding::Replaces(replacement(view, h, e.client, time))
+    Padding::Replaces(replacement(&side, h, time))
 }
 
 // How many records more are in use after it.
@@ -76,23 +72,16 @@ pub fn records_for(p: Padding) -> u64
     match p {
         Padding::Own => 1,
         Padding::Dropped => 0,
-        Padding::Replaces(r) => aggregate::records_for(r.by),
+        Padding::Replaces(r) => aggregate::records_for(r.tested.by),
     }
 }
 
-// Whether the sums that a packet taken over forms are within the limit.
-fn replaced_fits(r: Replaced, delay: Span, time: Time) -> bool
-    ensures { result ≡ fits (padding_sums delay.length.0 time.at.0 (padding_of (Padding.Replaces r))) }
-{
-    aggregate::base_fits(r.base) && aggregate::fit(delay, r.head.event.client, time, r.by)
-}
-
 // Whether the sums that it forms are within the limit.
-pub fn fit(p: Padding, delay: Span, time: Time) -> bool
-    ensures { result ≡ fits (padding_sums delay.length.0 time.at.0 (padding_of p)) }
+pub fn fit(p: Padding, lag: Lag) -> bool
+    ensures { result ≡ fits (padding_sums lag.delay.length.0 lag.time.at.0 (padding_of p)) }
 {
     match p {
         Padding::Own | Padding::Dropped => true,
-        Padding::Replaces(r) => replaced_fits(r, delay, time),
+        Padding::Replaces(r) => aggregate::tested_fits(lag, r.head.event.client, r.tested),
     }
 }

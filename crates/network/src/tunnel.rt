@@ -6,22 +6,21 @@ ghost use Rattle.rules.specs.NetworkStep.{packet, reported as reported_at};
 ghost use Rattle.rules.specs.ChoiceRound.{fits};
 ghost use Rattle.event.specs.HandedIn.{side_of};
 ghost use Rattle.event.specs.Values.{event_value};
-ghost use Rattle.queue.specs.Views.{state_in, side_in};
+ghost use Rattle.queue.specs.Views.{state_in, side_at};
 ghost use Rattle.delay.specs.Tests.{TestedAs};
 ghost use Rattle.network.specs.Plans.{sent_of, Sendable, LinkAs, tested_by, tested_sums, tunnel_of, tunnel_plan, tunnel_sums};
 
-use crate::{aggregate, window};
+use crate::{Lag, aggregate, window};
 use delay::Tested;
 use event::{Kind, SimEvent};
-use moment::{Length, Moment, Span, Sum, Time};
-use queue::{View, header};
+use moment::{Length, Moment, Span, Sum};
+use queue::{SideView, View, header};
 
 // What the step is to do.
 #[derive(Clone, Copy)]
 pub struct Tunnel {
     pub stale: u64,
-    pub by: Option<Length>,
-    pub base: Option<Moment>,
+    pub tested: Tested,
     pub received: SimEvent,
 }
 
@@ -35,27 +34,26 @@ pub struct Link {
     pub reporting: Span,
 }
 
-fn link_of(view: &View, client: bool) -> Link
-    ensures { LinkAs result (state_in view.now.words) (side_of client) }
+fn link_of(side: &SideView) -> Link
+    ensures { LinkAs result (state_in side.now.view.words) (side_of side.now.client) }
 {
+    let words = side.view.words;
     Link {
-        delay: crate::network_delay(view),
-        window: Span {
-            length: Length(view.words.header[3]),
-        },
-        rate: window::rate_of(view.words.header[1], view.words.header[2]),
-        sum: delay::sum(view, true),
+        delay: crate::network_delay(&side.view),
+        window: words.window(),
+        rate: window::rate_of(words.header[1], words.header[2]),
+        sum: side.view.side(true).sum(),
         reporting: Span {
-            length: Length(view.words.of_side(header::REPORTING_DELAY, !client)),
+            length: words.reporting_delay(!side.client),
         },
     }
 }
 
 // A packet of the moment `from` that is delayed is tested for an aggregate.
-fn test(view: &View, client: bool, from: Moment, extra: Length, sum: Sum) -> Tested
+fn test(side: &SideView, from: Moment, extra: Length, sum: Sum) -> Tested
     ensures { TestedAs result
-        (tested_by (side_in view.now.words client) sum.length.0 from.0 extra.0)
-        (tested_sums (side_in view.now.words client) sum.length.0 from.0 extra.0) }
+        (tested_by (side_at side.now) sum.length.0 from.0 extra.0)
+        (tested_sums (side_at side.now) sum.length.0 from.0 extra.0) }
 {
     if extra.0 == 0 {
         return Tested {
@@ -63,13 +61,7 @@ fn test(view: &View, client: bool, from: Moment, extra: Length, sum: Sum) -> Tes
             base: None,
         };
     }
-    let asked = delay::should_delayed_packet_prop_agg_delay(
-        view,
-        client,
-        from,
-        sum,
-        delay::usual(),
-    );
+    let asked = delay::should_delayed_packet_prop_agg_delay(side, from, sum, delay::usual());
     Tested {
         by: asked.yes.then_some(extra),
         base: asked.base,
@@ -77,6 +69,7 @@ fn test(view: &View, client: bool, from: Moment, extra: Length, sum: Sum) -> Tes
 }
 
 // When the packet is reported at the recipient.
+// `Sendable` stays a clause: as a struct of event and time it was six lines more and two fewer.
 fn reported(e: SimEvent, time: Moment, network: Length, reporting: Span) -> Moment
     requires sendable { Sendable e time.0 }
     requires network_small { network.0 ≤ 65_537_000_000_000_000 }
@@ -117,9 +110,10 @@ pub fn plan(view: &View, e: SimEvent, time: Moment) -> Tunnel
     requires sendable { Sendable e time.0 }
     ensures { tunnel_of result ≡ tunnel_plan (state_in view.now.words) time.0 (sent_of e) }
 {
-    let link = link_of(view, e.client);
-    let filled = window::fill(view, e.client, time, link.window, link.rate);
-    let tested = test(view, e.client, e.moment, filled.extra, link.sum);
+    let side = view.side(e.client);
+    let link = link_of(&side);
+    let filled = window::fill(&side, time, link.window, link.rate);
+    let tested = test(&side, e.moment, filled.extra, link.sum);
     let received = arrival(
         e,
         time,
@@ -128,17 +122,14 @@ pub fn plan(view: &View, e: SimEvent, time: Moment) -> Tunnel
     );
     Tunnel {
         stale: filled.stale,
-        by: tested.by,
-        base: tested.base,
+        tested,
         received,
     }
 }
 
 // Whether the sums that it forms are within the limit.
-pub fn fit(t: Tunnel, delay: Span, client: bool, time: Time) -> bool
-    ensures { result ≡ fits (tunnel_sums delay.length.0 (side_of client) time.at.0 (tunnel_of t)) }
+pub fn fit(t: Tunnel, lag: Lag, client: bool) -> bool
+    ensures { result ≡ fits (tunnel_sums lag.delay.length.0 (side_of client) lag.time.at.0 (tunnel_of t)) }
 {
-    aggregate::base_fits(t.base)
-        && aggregate::fit(delay, client, time, t.by)
-        && t.received.moment.fits()
+    aggregate::tested_fits(lag, client, t.tested) && t.received.moment.fits()
 }

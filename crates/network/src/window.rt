@@ -3,11 +3,11 @@ ghost use Rattle.std.specs.Prelude.{◌≡◌, ◌-◌, ◌≤◌, length, ltb};
 ghost use Rattle.rules.specs.NetworkStep.{rate_of, extra_over};
 ghost use Rattle.queue_event.specs.Words.{moment_of};
 ghost use Rattle.layout.specs.Layout.{unless_zero};
-ghost use Rattle.queue.specs.Views.{side_in};
+ghost use Rattle.queue.specs.Views.{side_at};
 ghost use Rattle.network.specs.Stamps.{limit_of, Above, RatedAs, evicted_count, FilledAs};
 
 use moment::{Length, Moment, Span};
-use queue::{View, header};
+use queue::{SideView, header};
 use queue_event::read::Record;
 
 // How many of the oldest stamps go, and the delay that the stamps left add, the new one with them.
@@ -34,17 +34,14 @@ fn stale(stamp: &Record, time: Moment, window: Length) -> bool
 }
 
 // How many of the oldest stamps go.
-pub fn stale_stamps(view: &View, client: bool, time: Moment, window: Length) -> u64
-    ensures { result ≡ evicted_count window.0 time.0 (side_in view.now.words client).stamps }
+pub fn stale_stamps(side: &SideView, time: Moment, window: Length) -> u64
+    ensures { result ≡ evicted_count window.0 time.0 (side_at side.now).stamps }
 {
-    let stamps = view.chain(header::stamps(client));
-    let count = stamps.chain.count;
-    for (gone, stamp) in (0..count).zip(stamps) {
-        if !stale(&stamp, time, window) {
-            return gone;
-        }
-    }
-    count
+    let stamps = side.view.chain(header::stamps(side.client));
+    let gone = stamps
+        .take_while(|stamp| stale(stamp, time, window))
+        .count();
+    gone as u64
 }
 
 // What a count above the limit adds.
@@ -60,13 +57,14 @@ pub fn extra(window: Span, count: u64, rate: Option<u64>) -> Length
 }
 
 // The window after a new stamp: what goes, and the delay that it adds.
-pub fn fill(view: &View, client: bool, time: Moment, window: Span, rate: Option<u64>) -> Filled
-    requires few { length view.now.words.records.now ≤ 262140 }
+pub fn fill(side: &SideView, time: Moment, window: Span, rate: Option<u64>) -> Filled
+    requires few { length side.now.view.words.records.now ≤ 262140 }
     requires rate_above { Above (limit_of rate) }
-    ensures { FilledAs result window.length.0 time.0 (limit_of rate) (side_in view.now.words client).stamps }
+    ensures { FilledAs result window.length.0 time.0 (limit_of rate) (side_at side.now).stamps }
 {
-    let stale = stale_stamps(view, client, time, window.length);
-    let count = view.words.entry(header::stamps(client)).count - stale + 1;
+    let stale = stale_stamps(side, time, window.length);
+    let stamps = side.view.words.entry(header::stamps(side.client));
+    let count = stamps.count - stale + 1;
     let extra = extra(window, count, rate);
     Filled { stale, extra }
 }

@@ -79,9 +79,9 @@ module _ (w : List ℕ) (p : Plan) (e : SimEvent) (d now : ℕ) (may : MayMake w
     unfolding Planned
     sends = subst (Planned (state_of w) now e) q may.plan
 
-    send_free : reserved (state_of w) + (2 + length (aggregates_of d (side_of e.client) now (delayed_of t.by))) ≤ count_in w 0 + t.stale
+    send_free : reserved (state_of w) + (2 + length (aggregates_of d (side_of e.client) now (delayed_of t.tested.by))) ≤ count_in w 0 + t.stale
     send_free =
-        ltb-false (count_in w 0 + t.stale) (reserved (state_of w) + (2 + length (aggregates_of d (side_of e.client) now (delayed_of t.by))))
+        ltb-false (count_in w 0 + t.stale) (reserved (state_of w) + (2 + length (aggregates_of d (side_of e.client) now (delayed_of t.tested.by))))
         (full_send w may.accepted now e t (subst (Planned (state_of w) now e) q may.plan) d ∙ may.room)
 
     pub send_may : MaySend w t e d now

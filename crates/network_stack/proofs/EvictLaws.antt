@@ -9,7 +9,7 @@ use lib.ListN.{length, take, drop}
 use Rattle.std.specs.Prelude.{if◌then◌else◌}
 use Rattle.rules.specs.Basics.{Side, client, server}
 use Rattle.rules.specs.State.{Held, State, side}
-use Rattle.rules.specs.NetworkStep.{stamps_kept, free_with_evicted, stamp}
+use Rattle.rules.specs.NetworkStep.{free_with_evicted, stamp}
 use Rattle.layout.specs.Layout.{state_of, held_stamp}
 use Rattle.layout.specs.Changes.{side_no}
 use Rattle.queue.specs.Changes.{MayRelease, Released, count_in, head_in}
@@ -20,24 +20,14 @@ use Rattle.layout.specs.Shape.{Shaped}
 use Rattle.queue_event.specs.Chain.{Chain, nodes}
 use Rattle.queue.proofs.Queueing.{released_stamp, stamps_are}
 use Rattle.queue.proofs.Sizes.{stamps_length}
-use Rattle.network.proofs.StampLaws.{evict_le}
+use Rattle.network.proofs.StampLaws.{stale_count_lem}
 use Rattle.queue_event.proofs.Laws.{chain_next, nodes_next}
 use Rattle.layout.proofs.Banks.{chains_at}
 use Rattle.queue.proofs.Changing.{first_in}
 use Rattle.network_stack.specs.Windows.{Evicting, Evicted}
 
--- ---- how many are stale
+-- ---- the records of those that are stale come to the free ones
 
-pub stale_evicted : (w now : ℕ) (l : List (Held ℕ)) → stale_count w now l ≡ evicted_count w now l
-stale_evicted w now [] = refl
-stale_evicted w now (t ∷ l) = go (ltb w (now - t.value)) (stale_evicted w now l) (evict_le w now l)
-  where
-    go : (b : Bool) → stale_count w now l ≡ evicted_count w now l → length (stamps_kept w now l) ≤ length l
-        → (if b then suc (stale_count w now l) else 0) ≡ suc (length l) - length (if b then stamps_kept w now l else t ∷ l)
-    go true e f = omega arith
-    go false e f = omega arith
-
--- their records come to the free ones
 evicted_free : (w now : ℕ) (l : List (Held ℕ)) (f : List ℕ) → length (free_with_evicted w now l f) ≡ length f + stale_count w now l
 evicted_free w now [] f = omega arith
 evicted_free w now (t ∷ l) f = go (ltb w (now - t.value)) (evicted_free w now l (t.place ∷ f))
@@ -156,4 +146,4 @@ pub stamp_free : (s : State) (z : Side) (now : ℕ) → length (stamp s z now).f
 unfolding stamp
 stamp_free s z now =
     tail_less (free_with_evicted s.settings.window now (side s z).stamps s.free)
-    ∙ ap (λ n. n - 1) (evicted_free s.settings.window now (side s z).stamps s.free ∙ ap (λ n. length s.free + n) (stale_evicted s.settings.window now (side s z).stamps))
+    ∙ ap (λ n. n - 1) (evicted_free s.settings.window now (side s z).stamps s.free ∙ ap (λ n. length s.free + n) (stale_count_lem s.settings.window now (side s z).stamps))

@@ -6,7 +6,7 @@ use mathlib.Core.List.{List, tail}
 use mathlib.Core.Option.{Option}
 use native.Mathlib.Omega.{arith}
 use lib.Dec.{ltb}
-use lib.ListN.{length, get_or, drop, take}
+use lib.ListN.{length, drop, take}
 use borrow.Author.Tests.{le-ltb, lt-ltb, ltb-true, ltb-false}
 use mir.Val.{Fits}
 use mir.Syntax.{w64}
@@ -26,7 +26,8 @@ use Rattle.event.specs.HandedIn.{event_in, side_of}
 use Rattle.event.specs.declared.SimEvent.{SimEvent}
 use Rattle.layout.specs.Accepted.{Accepted, room}
 use Rattle.layout.specs.Header.{reserved as reserved_in}
-use Rattle.layout.specs.Layout.{state_of}
+use Rattle.layout.specs.Layout.{state_from, state_of}
+use Rattle.layout.specs.Records.{count_of}
 use Rattle.queue.specs.Changes.{count_in}
 use Rattle.event.specs.Values.{event_value}
 use Rattle.delay.specs.Tests.{delayed_of}
@@ -40,7 +41,7 @@ use Rattle.network.proofs.PaddingLaws.{padding_step_lem}
 use Rattle.network.proofs.RoomLaws.{aggregates_long, padding_used, tunnel_used}
 use Rattle.network.proofs.TunnelLaws.{tunnel_step_lem}
 use Rattle.layout.proofs.Shapes.{accepted_shaped}
-use Rattle.queue.proofs.Changing.{count_word, shaped_count}
+use Rattle.queue.proofs.Changing.{shaped_count}
 use Rattle.network_stack.specs.declared.plan.Plan.{Plan}
 use Rattle.network_stack.specs.declared.plan.Plan.TheVariants.{Nothing, Pad, Queue, Send}
 use Rattle.network_stack.specs.Steps.{Planned, after_of, no_room, plan_gives_back, plan_records}
@@ -124,13 +125,13 @@ module _ (w : List ℕ) (a : Accepted w) (now : ℕ) (e : SimEvent) where
       (ap (λ r. reserved r.state) (after_pad (state_of w) now e p.kind) ∙ padding_reserved (state_of w) now e)
       (omega (arith, ap (λ r. used r.state) (after_pad (state_of w) now e p.kind), padding_used (state_of w) now (padded_of e) (waiting_first_lem (state_of w) (side_of e.client) _ (held w a).sound), ap padding_records p.plan)) (whole w a)
 
-  pub full_send : (t : Tunnel) → Planned (state_of w) now e (Send t) → (d : ℕ) → ltb (count_in w 0 + t.stale) (reserved (state_of w) + (2 + length (aggregates_of d (side_of e.client) now (delayed_of t.by)))) ≡ full (after_of (state_of w) now e).state
+  pub full_send : (t : Tunnel) → Planned (state_of w) now e (Send t) → (d : ℕ) → ltb (count_in w 0 + t.stale) (reserved (state_of w) + (2 + length (aggregates_of d (side_of e.client) now (delayed_of t.tested.by)))) ≡ full (after_of (state_of w) now e).state
   unfolding Planned
   full_send t p d =
-      full_by (after_of (state_of w) now e).state (state_of w).room (used (state_of w)) (reserved (state_of w)) (count_in w 0) t.stale (2 + length (aggregates_of d (side_of e.client) now (delayed_of t.by))) (room_same (state_of w) now e)
+      full_by (after_of (state_of w) now e).state (state_of w).room (used (state_of w)) (reserved (state_of w)) (count_in w 0) t.stale (2 + length (aggregates_of d (side_of e.client) now (delayed_of t.tested.by))) (room_same (state_of w) now e)
       (ap (λ r. reserved r.state) (after_send (state_of w) now e p.kind) ∙ tunnel_reserved (state_of w) now e)
       (omega
-      (arith, ap (λ r. used r.state) (after_send (state_of w) now e p.kind), tunnel_used (state_of w) now (sent_of e), ap (λ x. x.stale) p.plan, ap (λ x. length (aggregates_of 0 client 0 x.by)) p.plan, aggregates_long (state_of w).settings.network_delay (side_of e.client) now (tunnel_plan (state_of w) now (sent_of e)).by, aggregates_long d (side_of e.client) now (delayed_of t.by))) (whole w a)
+      (arith, ap (λ r. used r.state) (after_send (state_of w) now e p.kind), tunnel_used (state_of w) now (sent_of e), ap (λ x. x.stale) p.plan, ap (λ x. length (aggregates_of 0 client 0 x.by)) p.plan, aggregates_long (state_of w).settings.network_delay (side_of e.client) now (tunnel_plan (state_of w) now (sent_of e)).by, aggregates_long d (side_of e.client) now (delayed_of t.tested.by))) (whole w a)
 
 -- number 9 by the plan of a step is that of the rules' step
 pub planned_full : (w : List ℕ) → Accepted w → (now : ℕ) (e : SimEvent) (p : Plan) → Planned (state_of w) now e p → no_room w p ≡ full (after_of (state_of w) now e).state
@@ -139,7 +140,7 @@ planned_full w a now e Nothing pl = full_nothing w a now e pl
 planned_full w a now e (Queue q) pl = full_queue w a now e q pl
 planned_full w a now e (Pad q) pl = full_pad w a now e q pl
 planned_full w a now e (Send t) pl =
-    ap (λ n. ltb (count_in w 0 + t.stale) (reserved (state_of w) + (2 + n))) (sym (aggregates_long 0 (side_of e.client) now (delayed_of t.by)))
+    ap (λ n. ltb (count_in w 0 + t.stale) (reserved (state_of w) + (2 + n))) (sym (aggregates_long 0 (side_of e.client) now (delayed_of t.tested.by)))
     ∙ full_send w a now e t pl 0
 
 -- ---- no_room, as the code goes
@@ -152,11 +153,12 @@ padding_few (takes h by f) = at_most_two 0 client 0 by
 pub pad_fits : (v : Padding) (r n : ℕ) → r ≤ 166 → n ≡ padding_records (padding_of v) → Fits w64 (r + n)
 pad_fits v r n l e = record { fits = omega (arith, padding_few (padding_of v)) }
 
-pub send_fits : (w : List ℕ) (p : Plan) (t : Tunnel) → Accepted w → plan_gives_back p ≤ 65535 → p ≡ Send t → Fits w64 (get_or w 25 0 + t.stale)
+-- n records are free, by the header in view
+pub send_fits : (w : List ℕ) (p : Plan) (t : Tunnel) (h : List ℕ) (n : ℕ) → h ≡ take 256 w → n ≡ count_of h 0 → Accepted w → plan_gives_back p ≤ 65535 → p ≡ Send t → Fits w64 (n + t.stale)
 unfolding plan_gives_back
-send_fits w p t a s e =
+send_fits w p t h n eh en a s e =
     let l : t.stale ≤ 65535 = subst (λ x. plan_gives_back x ≤ 65535) e s in
-    record { fits = omega (arith, shaped_count w (accepted_shaped w a) 0 (omega arith), count_word w 0 (omega arith)) }
+    record { fits = omega (arith, shaped_count w (accepted_shaped w a) 0 (omega arith), en, ap (λ x. count_of x 0) eh) }
 
 pub by_fits : (o : Option ℕ) (r n : ℕ) → r ≤ 166 → ((d : ℕ) (z : Side) (at : ℕ) → n ≡ length (aggregates_of d z at o)) → Fits w64 (r + 2 + n)
 by_fits o r n l e = record { fits = omega (arith, e 0 client 0, at_most_two 0 client 0 o) }
@@ -167,23 +169,27 @@ module _ (w : List ℕ) (p : Plan) (a : Accepted w) where
   unfolding plan_records plan_gives_back
   room_nothing q = sym (ap (no_room w) q ∙ le-ltb (count_in w 0 + 0) (reserved (state_of w) + 0) (omega (arith, free_kept w a)))
 
-  module _ (r : ℕ) (er : (r ≡ reserved (state_of w)) × (r ≤ 166)) where
-    free_is : get_or w 25 0 ≡ count_in w 0
-    free_is = count_word w 0 (omega arith)
+  -- r is in reserve and n are free, by the words in view
+  module _ (h rs : List ℕ) (eh : h ≡ take 256 w) (ers : rs ≡ drop 256 w) (r n : ℕ) (er : (r ≡ reserved (state_from h rs)) × (r ≤ 166)) (en : n ≡ count_of h 0) where
+    kept : r ≡ reserved (state_of w)
+    kept = er.0 ∙ ap₂ (λ x y. reserved (state_from x y)) eh ers
 
-    pub room_queue : (v : SimEvent) → p ≡ Queue v → ltb (get_or w 25 0) (r + 1) ≡ no_room w p
-    unfolding plan_records plan_gives_back
-    room_queue v q = ap₂ (λ x y. ltb x (y + 1)) (omega (arith, free_is)) er.0 ∙ sym (ap (no_room w) q)
+    free_is : n ≡ count_in w 0
+    free_is = en ∙ ap (λ x. count_of x 0) eh
 
-    pub room_pad : (v : Padding) (n : ℕ) → p ≡ Pad v → n ≡ padding_records (padding_of v) → ltb (get_or w 25 0) (r + n) ≡ no_room w p
+    pub room_queue : (v : SimEvent) → p ≡ Queue v → ltb n (r + 1) ≡ no_room w p
     unfolding plan_records plan_gives_back
-    room_pad v n q en = ap₂ ltb (omega (arith, free_is)) (ap₂ ◌+◌ er.0 en) ∙ sym (ap (no_room w) q)
+    room_queue v q = ap₂ (λ x y. ltb x (y + 1)) (omega (arith, free_is)) kept ∙ sym (ap (no_room w) q)
 
-    pub room_send : (t : Tunnel) (n : ℕ) → p ≡ Send t → ((d : ℕ) (z : Side) (at : ℕ) → n ≡ length (aggregates_of d z at (delayed_of t.by))) → ltb (get_or w 25 0 + t.stale) (r + 2 + n) ≡ no_room w p
+    pub room_pad : (v : Padding) (m : ℕ) → p ≡ Pad v → m ≡ padding_records (padding_of v) → ltb n (r + m) ≡ no_room w p
     unfolding plan_records plan_gives_back
-    room_send t n q en = ap₂ ltb (ap (λ x. x + t.stale) free_is) (omega (arith, er.0, en 0 client 0)) ∙ sym (ap (no_room w) q)
+    room_pad v m q em = ap₂ ltb (omega (arith, free_is)) (ap₂ ◌+◌ kept em) ∙ sym (ap (no_room w) q)
+
+    pub room_send : (t : Tunnel) (m : ℕ) → p ≡ Send t → ((d : ℕ) (z : Side) (at : ℕ) → m ≡ length (aggregates_of d z at (delayed_of t.tested.by))) → ltb (n + t.stale) (r + 2 + m) ≡ no_room w p
+    unfolding plan_records plan_gives_back
+    room_send t m q em = ap₂ ltb (ap (λ x. x + t.stale) free_is) (omega (arith, kept, em 0 client 0)) ∙ sym (ap (no_room w) q)
 
 -- ---- reserved
 
-pub reserved_in_lem : (w : List ℕ) (r : ℕ) → (r ≡ reserved_in (take 256 w)) × (r ≤ 166) → (r ≡ reserved (state_of w)) × (r ≤ 166)
-reserved_in_lem w r e = (e.0 ∙ sym (reserved_is (take 256 w) (drop 256 w)), e.1)
+pub reserved_in_lem : (h rs : List ℕ) (r : ℕ) → (r ≡ reserved_in h) × (r ≤ 166) → (r ≡ reserved (state_from h rs)) × (r ≤ 166)
+reserved_in_lem h rs r e = (e.0 ∙ sym (reserved_is h rs), e.1)

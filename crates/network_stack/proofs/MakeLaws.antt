@@ -54,7 +54,7 @@ module _ (w : List ℕ) (r : Replaced) (d now : ℕ) (may : MayReplace w r d now
     free_same : count_in v 0 ≡ count_in w 0
     free_same = sym (free_length v) ∙ ap (λ s. length s.free) l.state ∙ ap length (passed_free (state_of w) (head_from r.head)) ∙ free_length w
 
-    pub replace_aggregate : MayAggregate v d (side_of r.head.event.client) now (delayed_of r.by)
+    pub replace_aggregate : MayAggregate v d (side_of r.head.event.client) now (delayed_of r.tested.by)
     replace_aggregate = record { shaped = l.shaped; free = omega (arith, may.free, free_same) }
 
 -- ---- the packet that waits
@@ -107,7 +107,7 @@ module _ (w : List ℕ) (p : Padding) (e : SimEvent) (d now : ℕ) (may : MayPad
         }
 
   module _ (r : Replaced) (q : p ≡ Replaces r) where
-    plan_is : takes (head_from r.head) (delayed_of r.by) (some_sum (moment_no r.base)) ≡ padding_plan (state_of w) now (padded_of e)
+    plan_is : takes (head_from r.head) (delayed_of r.tested.by) (some_sum (moment_no r.tested.base)) ≡ padding_plan (state_of w) now (padded_of e)
     unfolding padding_of
     plan_is = sym (ap padding_of q) ∙ may.plan
 
@@ -124,10 +124,10 @@ module _ (w : List ℕ) (p : Padding) (e : SimEvent) (d now : ℕ) (may : MayPad
                 queue = waits_in (side (state_of w) (side_of e.client)).block_bypassable (side (state_of w) (side_of e.client)) r.head waits_is;
                 first = subst (HeadOf (state_of w)) waits_is (waiting_first_lem (state_of w) (side_of e.client) (side (state_of w) (side_of e.client)).block_bypassable (holds_accepted w may.accepted).sound);
               };
-          free = omega (arith, rw q at may.free, aggregates_long d (side_of r.head.event.client) now (delayed_of r.by));
+          free = omega (arith, rw q at may.free, aggregates_long d (side_of r.head.event.client) now (delayed_of r.tested.by));
         }
 
-    pub pad_replaced : (left : List ℕ) → Leaves w left (add_aggregates (passed_on (state_of w) (head_from r.head)) (aggregates_of d (side_of r.head.event.client) now (delayed_of r.by)))
+    pub pad_replaced : (left : List ℕ) → Leaves w left (add_aggregates (passed_on (state_of w) (head_from r.head)) (aggregates_of d (side_of r.head.event.client) now (delayed_of r.tested.by)))
         → Leaves w left (step_padding (state_of w) now (padded_of e)).state
     unfolding padding_of passed_on head_from
     pad_replaced left l =
@@ -135,7 +135,7 @@ module _ (w : List ℕ) (p : Padding) (e : SimEvent) (d now : ℕ) (may : MayPad
           shaped = l.shaped;
           state =
               l.state
-              ∙ ap (λ n. add_aggregates (passed_on (state_of w) (head_from r.head)) (aggregates_of n (side_of r.head.event.client) now (delayed_of r.by))) may.delay
+              ∙ ap (λ n. add_aggregates (passed_on (state_of w) (head_from r.head)) (aggregates_of n (side_of r.head.event.client) now (delayed_of r.tested.by))) may.delay
               ∙ sym (ap (λ r. r.state) step_is ∙ ap (λ y. (padding_step (state_of w) now (padded_of e) (padding_of y)).state) q);
           size = l.size;
           beside = l.beside;
@@ -164,10 +164,10 @@ module _ (w : List ℕ) (t : Tunnel) (e : SimEvent) (d now : ℕ) (may : MaySend
         omega
         (arith, free_length v, ap (λ s. length s.free) l.state, stamp_free (state_of w) (side_of e.client) now, free_length w, stale_is)
 
-    pub send_aggregate : MayAggregate v d (side_of e.client) now (delayed_of t.by)
+    pub send_aggregate : MayAggregate v d (side_of e.client) now (delayed_of t.tested.by)
     send_aggregate = record { shaped = l.shaped; free = omega (arith, may.free, free_left) }
 
-    module _ (u : List ℕ) (m : Leaves v u (add_aggregates (state_of v) (aggregates_of d (side_of e.client) now (delayed_of t.by)))) where
+    module _ (u : List ℕ) (m : Leaves v u (add_aggregates (state_of v) (aggregates_of d (side_of e.client) now (delayed_of t.tested.by)))) where
       received_canonical : Canonical t.received
       unfolding tunnel_plan
       received_canonical = recv_canonical t.received _ _ _ _ (ap (λ p. p.received) may.plan)
@@ -178,7 +178,7 @@ module _ (w : List ℕ) (t : Tunnel) (e : SimEvent) (d now : ℕ) (may : MaySend
             shaped = m.shaped;
             free =
                 omega
-                (arith, may.free, free_left, free_length u, ap (λ s. length s.free) m.state, adds_free (state_of v) (aggregates_of d (side_of e.client) now (delayed_of t.by)), free_length v);
+                (arith, may.free, free_left, free_length u, ap (λ s. length s.free) m.state, adds_free (state_of v) (aggregates_of d (side_of e.client) now (delayed_of t.tested.by)), free_length v);
             canonical = received_canonical;
           }
 
@@ -195,7 +195,7 @@ module _ (w : List ℕ) (t : Tunnel) (e : SimEvent) (d now : ℕ) (may : MaySend
                   shaped = n.shaped;
                   state =
                       n.state
-                      ∙ ap (λ s. push_event s (event_value t.received)) (m.state ∙ ap₂ (λ s x. add_aggregates s (aggregates_of x (side_of e.client) now (delayed_of t.by))) l.state may.delay)
+                      ∙ ap (λ s. push_event s (event_value t.received)) (m.state ∙ ap₂ (λ s x. add_aggregates s (aggregates_of x (side_of e.client) now (delayed_of t.tested.by))) l.state may.delay)
                       ∙ sym (ap (λ r. r.state) (tunnel_step_lem (state_of w) now (sent_of e)) ∙ ap (λ p. (tunnel_step (state_of w) now (sent_of e) p).state) (sym may.plan));
                   size = n.size ∙ m.size ∙ l.size;
                   beside = λ i b o. n.beside i b o ∙ m.beside i b o ∙ l.beside i b o;

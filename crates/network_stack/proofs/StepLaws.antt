@@ -41,13 +41,10 @@ use Rattle.network_stack.specs.declared.plan.Plan.TheVariants.{Nothing, Pad, Que
 use Rattle.network_stack.specs.Packets.{Carried}
 use Rattle.network_stack.specs.Steps.{MayMake, MayStep, Planned, StepDone, after_of, no_room, plan_gives_back, plan_sums}
 use Rattle.network_stack.proofs.PlanLaws.{planned_fits}
+use Rattle.network_stack.proofs.EvictLaws.{no_small}
 use Rattle.network_stack.proofs.FullLaws.{planned_full}
 
 -- ---- a plan gives back no more stamps than there are
-
-side_small : (b : Bool) → 5 + 5 * side_no (side_of b) < 12
-side_small true = omega arith
-side_small false = omega arith
 
 few_stamps : (w : List ℕ) (p : Plan) (now : ℕ) (e : SimEvent) → Accepted w → Planned (state_of w) now e p → plan_gives_back p ≤ 65535
 unfolding Planned plan_gives_back tunnel_plan
@@ -56,7 +53,7 @@ few_stamps w (Queue q) now e a pl = omega arith
 few_stamps w (Pad q) now e a pl = omega arith
 few_stamps w (Send t) now e a pl =
     omega
-    (arith, ap (λ x. x.stale) pl.plan, stamps_length w (side_of e.client), shaped_count w (accepted_shaped w a) (5 + 5 * side_no (side_of e.client)) (side_small e.client))
+    (arith, ap (λ x. x.stale) pl.plan, stamps_length w (side_of e.client), shaped_count w (accepted_shaped w a) (5 + 5 * side_no (side_of e.client)) (no_small (side_of e.client)))
 
 -- ---- the answers are told apart
 
@@ -79,7 +76,7 @@ clash b p q = absurd (false≢true (sym q ∙ p))
 -- ---- the call
 
 -- h and rs are the words in view, of which the plan p was made
-module _ (w : List ℕ) (e : SimEvent) (now : ℕ) (p : Plan) (may : MayStep w e now) (h rs : List ℕ) (eh : h ≡ take 256 w) (er : rs ≡ drop 256 w) (seen : Planned (state_from h rs) now e p) where
+module _ (w : List ℕ) (e : SimEvent) (now : ℕ) (p : Plan) (may : MayStep w e) (h rs : List ℕ) (eh : h ≡ take 256 w) (er : rs ≡ drop 256 w) (seen : Planned (state_from h rs) now e p) where
   pl : Planned (state_of w) now e p
   pl = rw (eh, er) at seen
 
@@ -87,7 +84,7 @@ module _ (w : List ℕ) (e : SimEvent) (now : ℕ) (p : Plan) (may : MayStep w e
   plan_small = few_stamps w p now e may.accepted pl
 
 module _
-    (w : List ℕ) (e : SimEvent) (now : ℕ) (p : Plan) (may : MayStep w e now) (h rs : List ℕ) (eh : h ≡ take 256 w) (er : rs ≡ drop 256 w) (seen : Planned (state_from h rs) now e p)
+    (w : List ℕ) (e : SimEvent) (now : ℕ) (p : Plan) (may : MayStep w e) (h rs : List ℕ) (eh : h ≡ take 256 w) (er : rs ≡ drop 256 w) (seen : Planned (state_from h rs) now e p)
     (x : Bool) (ex : x ≡ no_room w p) where
   planned : Planned (state_of w) now e p
   planned = pl w e now p may h rs eh er seen

@@ -54,7 +54,7 @@ pub record MayTakeOver (w : List ℕ) (h : Head) : Type 0 where
 -- and the aggregates have free records
 pub record MayReplace (w : List ℕ) (r : Replaced) (d now : ℕ) : Type 0 where
   pub head : MayTakeOver w r.head
-  pub free : length (aggregates_of d (side_of r.head.event.client) now (delayed_of r.by)) ≤ count_in w 0
+  pub free : length (aggregates_of d (side_of r.head.event.client) now (delayed_of r.tested.by)) ≤ count_in w 0
 
 -- p is the plan for the state held, and there are free records for it
 pub record MayPad (w : List ℕ) (p : Padding) (e : SimEvent) (d now : ℕ) : Type 0 where
@@ -69,7 +69,7 @@ pub record MayPad (w : List ℕ) (p : Padding) (e : SimEvent) (d now : ℕ) : Ty
 pub record MaySend (w : List ℕ) (t : Tunnel) (e : SimEvent) (d now : ℕ) : Type 0 where
   pub accepted : Accepted w
   pub plan : tunnel_of t ≡ tunnel_plan (state_of w) now (sent_of e)
-  pub free : 2 + length (aggregates_of d (side_of e.client) now (delayed_of t.by)) ≤ count_in w 0 + t.stale
+  pub free : 2 + length (aggregates_of d (side_of e.client) now (delayed_of t.tested.by)) ≤ count_in w 0 + t.stale
   pub delay : d ≡ (state_of w).settings.network_delay
 
 -- ---- a step that is carried out

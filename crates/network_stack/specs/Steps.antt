@@ -34,11 +34,10 @@ use Rattle.network_stack.specs.declared.plan.Plan.TheVariants.{Nothing, Pad, Que
 unfoldable pub after_of : State → ℕ → SimEvent → Stepped
 after_of s now e = after_step s now (event_in e) (kind_of e.kind.0)
 
--- what numbers 7 and 8 leave: moment, delay and time within their limits, and no delay above the moment of an unpadded `TunnelSent`
-pub record Handed (e : SimEvent) (now : ℕ) : Type 0 where
+-- what numbers 7 and 8 leave of it: moment and delay within their limits, and no delay above the moment of an unpadded `TunnelSent`
+pub record Handed (e : SimEvent) : Type 0 where
   pub moment : e.moment.0 ≤ moment_limit
   pub delay : e.delay.0 ≤ delay_limit
-  pub time : now ≤ moment_limit
   pub back : e.kind.0 ≡ 0 → e.padding ≡ false → e.delay.0 ≤ e.moment.0
 
 -- ---- the plan
@@ -81,7 +80,7 @@ unfoldable pub plan_records : Plan → ℕ
 plan_records Nothing = 0
 plan_records (Queue q) = 1
 plan_records (Pad p) = padding_records (padding_of p)
-plan_records (Send t) = 2 + length (aggregates_of 0 client 0 (delayed_of t.by))
+plan_records (Send t) = 2 + length (aggregates_of 0 client 0 (delayed_of t.tested.by))
 
 -- the records that it gives back: those of the stale stamps
 unfoldable pub plan_gives_back : Plan → ℕ
@@ -105,9 +104,9 @@ pub record MayMake (w : List ℕ) (p : Plan) (e : SimEvent) (d now : ℕ) : Type
 
 -- ---- the call
 
-pub record MayStep (w : List ℕ) (e : SimEvent) (now : ℕ) : Type 0 where
+pub record MayStep (w : List ℕ) (e : SimEvent) : Type 0 where
   pub accepted : Accepted w
-  pub handed : Handed e now
+  pub handed : Handed e
 
 -- number 9 where the records would not do, and then nothing is changed; else the answer and the state of the rules, number 10 included
 pub record StepDone (w : List ℕ) (now : ℕ) (e : SimEvent) (a : Result SteppedOf Refusal) (left : List ℕ) : Type 0 where

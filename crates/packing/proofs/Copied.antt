@@ -2,7 +2,6 @@
 use Prim.Native.Nat.{ℕ, suc, ◌+◌, ◌-◌, ◌*◌, ◌≤◌}
 use mathlib.Core.Path.{◌≡◌, refl, sym, ap, ◌∙◌}
 use mathlib.Core.List.{List, [], ◌∷◌, ◌++◌, append_assoc, append-nil}
-use mathlib.Core.Logic.{◌⊎◌, inl, inr}
 use native.Mathlib.Omega.{arith}
 use lib.ListN.{length, set, take, length-set}
 use lib.Seq.{take-suc-set}
@@ -98,26 +97,17 @@ unfolding chain_words
 one_more x l p = ap (λ a. a ∷ x.rec.moment ∷ x.rec.size ∷ x.rec.tag ∷ chain_words (suc p) (recs l)) (sym (link_is l p))
 
 pub copy_start :
-    (rest out : List ℕ) (n h p : ℕ) → 1 ≤ p → 4 * (p + n) ≤ length out + 4
-    → Copies (take (4 * p - 4) out ++ chain_words p (contents rest n h)) out (p + n) out (nodes rest n h) p
-copy_start rest out n h p one room = record { one = one; ends = omega (arith, length_contents rest n h); fits = room; len = refl; whole = refl }
+    (rest out : List ℕ) (n h p q : ℕ) → 1 ≤ p → 4 * (p + n) ≤ length out + 4 → q ≡ p + 0
+    → Copies (take (4 * p - 4) out ++ chain_words p (contents rest n h)) out (p + n) out (nodes rest n h) q
+copy_start rest out n h p q one room e = let same : q ≡ p = omega arith in rw same (record { one = one; ends = omega (arith, length_contents rest n h); fits = room; len = refl; whole = refl })
 
 -- p is q, where the code has it
 module _ (goal out₀ : List ℕ) (end : ℕ) (out : List ℕ) (l x : List Node) (p q : ℕ) (c : Copies goal out₀ end out l p) where
-  none_left : p ≡ end → l ≡ [] → take (4 * end - 4) out ≡ goal
+  pub copy_end : l ≡ [] → take (4 * end - 4) out ≡ goal
   unfolding chain_words
-  none_left ep e = ap (λ j. take (4 * j - 4) out) (sym ep) ∙ sym (append-nil (take (4 * p - 4) out)) ∙ (rw e at c.whole)
-
-  -- one of the two that are walked together, the numbers and the chain, has ended
-  pub copy_end :
-      {A B : Type 0} {P : A → Type 0} {Q : B → Type 0} → (e : ℕ) → e ≡ end → ((u : A) × P u) ⊎ ((v : B) × Q v) → ((u : A) → P u → e - p ≡ 0) → ((v : B) → Q v → l ≡ [])
-      → take (4 * end - 4) out ≡ goal
-  copy_end e ee (inl s) f g = none_left (omega (arith, f s.0 s.1, c.ends)) (go l (omega (arith, f s.0 s.1, c.ends)))
-    where
-      go : (k : List Node) → length (recs k) ≡ 0 → k ≡ []
-      go [] e = refl
-      go (y ∷ k) e = absurd (omega arith)
-  copy_end e ee (inr s) f g = none_left (omega (arith, c.ends, ap (λ k. length (recs k)) (g s.0 s.1))) (g s.0 s.1)
+  copy_end e =
+      let last : end ≡ p = omega (arith, c.ends, ap (λ k. length (recs k)) e) in
+      ap (λ j. take (4 * j - 4) out) last ∙ sym (append-nil (take (4 * p - 4) out)) ∙ (rw e at c.whole)
 
   -- the first record of what is left is record r of rest
   module _ (rest rest' : List ℕ) (r : ℕ) (e : l ≡ node rest r ∷ x) (er : rest' ≡ rest) (eq : q ≡ p) where

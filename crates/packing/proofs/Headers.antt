@@ -1,58 +1,23 @@
 -- The header written: each of its words, and the heads and counts that stand in it. Assumes nothing.
-use Prim.Native.Nat.{ℕ, zero, suc, ◌+◌, ◌-◌, ◌*◌, ◌/◌, ◌%◌, ◌≤◌, ◌<◌}
+use Prim.Native.Nat.{ℕ, zero, suc, ◌+◌, ◌-◌, ◌≤◌, ◌<◌}
 use mathlib.Core.Path.{◌≡◌, refl, sym, ap, subst, ◌∙◌}
-use mathlib.Core.Bool.{Bool, true, false}
 use mathlib.Core.List.{List}
 use native.Mathlib.Omega.{arith}
 use native.Mathlib.Decide.{ℕ_discrete}
-use lib.ListN.{length, get_or, set, take, length-set}
+use lib.ListN.{length, get_or, set, take, drop, length-set}
 use lib.Seq.{get_or-set_same, get_or-set_other, get_or-take, length-take-le, ext_get_or}
-use borrow.Author.Tests.{lt-ltb, le-ltb, le-leb, lt-leb, eq-eqb, ne_eqb}
-use Rattle.layout.specs.Records.{head_of, count_of}
-use Rattle.layout.specs.Spare.{spare}
+use borrow.Author.Tests.{eq-eqb, ne_eqb}
 use Rattle.layout.specs.Opened.{table}
-use Rattle.layout.specs.Packed.{header_word}
 use Rattle.layout.proofs.Tables.{length_table, table_at}
+use Rattle.std.proofs.lemmas.List.{get_or-drop}
 use Rattle.std.proofs.Math.ListN.{get_or-map}
 use Rattle.std.proofs.Math.Seq.{map-set, map-set_same}
 use Rattle.queue_event.specs.declared.chain.Entry.{Entry}
-use Rattle.packing.specs.Heads.{heads_of, counts_of, sum_to, first_for, start_of, header_from, Reads, Starts, HeaderTo}
-
--- ---- a word of the header
-
-module _ (h heads counts : List ℕ) (i : ℕ) where
-  pub word_spare : (b : Bool) → b ≡ spare i → b ≡ true → 0 ≡ header_from h heads counts i
-  unfolding header_word
-  word_spare b e t = rw (sym e ∙ t) refl
-
-  pub word_before : (b : Bool) → b ≡ spare i → b ≡ false → i < 24 → get_or h i 0 ≡ header_from h heads counts i
-  unfolding header_word
-  word_before b e t l = rw (sym e ∙ t, lt-leb 24 i l) refl
-
-  pub word_after : (b : Bool) → b ≡ spare i → b ≡ false → 24 ≤ i → 12 ≤ (i - 24) / 2 → get_or h i 0 ≡ header_from h heads counts i
-  unfolding header_word
-  word_after b e t l m = rw (sym e ∙ t, le-leb 24 i l, le-ltb i 48 (omega arith)) refl
-
-  pub word_head : (b : Bool) → b ≡ spare i → b ≡ false → 24 ≤ i → (i - 24) / 2 < 12 → i % 2 ≡ 0 → get_or heads ((i - 24) / 2) 0 ≡ header_from h heads counts i
-  unfolding header_word
-  word_head b e t l m z = rw (sym e ∙ t, le-leb 24 i l, lt-ltb i 48 (omega arith), eq-eqb (i % 2) 0 z) refl
-
-  pub word_count :
-      (b : Bool) → b ≡ spare i → b ≡ false → 24 ≤ i → (i - 24) / 2 < 12 → (i % 2 ≡ 0 → ⊥) → get_or counts ((i - 24) / 2) 0 ≡ header_from h heads counts i
-  unfolding header_word
-  word_count b e t l m z = rw (sym e ∙ t, le-leb 24 i l, lt-ltb i 48 (omega arith), ne_eqb (i % 2) 0 z) refl
+use Rattle.packing.specs.Heads.{heads_of, counts_of, sum_to, first_for, start_of, header_from, Starts, HeaderTo}
 
 -- ---- words written one after another
 
--- one more of the words that f gives
-one_more : (f : ℕ → ℕ) (l : List ℕ) (n v : ℕ) → n < length l → v ≡ f n → ((i : ℕ) → i < n → get_or l i 0 ≡ f i) → (i : ℕ) → i < n + 1 → get_or (set l n v) i 0 ≡ f i
-one_more f l n v b e c i q = go (ℕ_discrete i n)
-  where
-    go : Dec (i ≡ n) → get_or (set l n v) i 0 ≡ f i
-    go (yes z) = ap (λ j. get_or (set l n v) j 0) z ∙ get_or-set_same l n v 0 b ∙ e ∙ ap f (sym z)
-    go (no d) = get_or-set_other l n i v 0 d ∙ c i (omega arith)
-
--- all of them
+-- all that f gives
 all_words : (f : ℕ → ℕ) (l : List ℕ) (n : ℕ) → n ≤ length l → ((i : ℕ) → i < n → get_or l i 0 ≡ f i) → take n l ≡ table n f
 all_words f l n b c = ext_get_or 0 (take n l) (table n f) (long ∙ sym (length_table n f)) (λ i q. go i (rw long at q))
   where
@@ -61,19 +26,6 @@ all_words f l n b c = ext_get_or 0 (take n l) (table n f) (long ∙ sym (length_
 
     go : (i : ℕ) → i < n → get_or (take n l) i 0 ≡ get_or (table n f) i 0
     go i q = get_or-take n l i 0 q ∙ c i q ∙ sym (table_at n f i q)
-
--- ---- the heads and counts that the old header has
-
-module _ (h heads counts : List ℕ) where
-  pub reads_turn :
-      (k a n : ℕ) → k < 12 → a ≡ get_or h (24 + 2 * k) 0 → n ≡ get_or h (25 + 2 * k) 0 → Reads h heads counts k → Reads h (set heads k a) (set counts k n) (k + 1)
-  reads_turn k a n l ea en c = record {
-    most = omega arith;
-    long_heads = length-set heads k a ∙ c.long_heads;
-    long_counts = length-set counts k n ∙ c.long_counts;
-    firsts = one_more (head_of h) heads k a (omega (arith, c.long_heads)) ea c.firsts;
-    numbers = one_more (count_of h) counts k n (omega (arith, c.long_counts)) en c.numbers;
-  }
 
 -- ---- the words of the new header
 
@@ -170,6 +122,16 @@ module _ (l : List Entry) (k : ℕ) where
   pub count_at : (get_or l k none).count ≡ get_or (counts_of l) k 0
   count_at = sym (get_or-map (λ (c : Entry). c.count) l k none)
 
+  -- in the chains from 1 on
+  next_at : k < 11 → get_or (take 11 (drop 1 l)) k none ≡ get_or l (suc k) none
+  next_at q = let same : 1 + k ≡ suc k = omega arith in get_or-take 11 (drop 1 l) k none q ∙ get_or-drop 1 l k none ∙ ap (λ j. get_or l j none) same
+
+  pub next_head : k < 11 → (get_or (take 11 (drop 1 l)) k none).head ≡ get_or (heads_of l) (suc k) 0
+  next_head q = ap (λ (c : Entry). c.head) (next_at q) ∙ sym (get_or-map (λ (c : Entry). c.head) l (suc k) none)
+
+  pub next_count : k < 11 → (get_or (take 11 (drop 1 l)) k none).count ≡ get_or (counts_of l) (suc k) 0
+  next_count q = ap (λ (c : Entry). c.count) (next_at q) ∙ sym (get_or-map (λ (c : Entry). c.count) l (suc k) none)
+
   heads_set : (x : Entry) → heads_of (set l k x) ≡ set (heads_of l) k x.head
   heads_set x = map-set (λ (c : Entry). c.head) l k x
 
@@ -179,11 +141,6 @@ module _ (l : List Entry) (k : ℕ) where
   -- a chain whose head alone is new
   counts_kept : (a : ℕ) → counts_of (set l k (record { head = a; count = (get_or l k none).count })) ≡ counts_of l
   counts_kept a = map-set_same (λ (c : Entry). c.count) l k (record { head = a; count = (get_or l k none).count }) none refl
-
-pub read_turn :
-    (h : List ℕ) (l : List Entry) (k : ℕ) (x : Entry) → k < 12 → x.head ≡ get_or h (24 + 2 * k) 0 → x.count ≡ get_or h (25 + 2 * k) 0 → Reads h (heads_of l) (counts_of l) k
-    → Reads h (heads_of (set l k x)) (counts_of (set l k x)) (k + 1)
-read_turn h l k x b ea en c = rw (heads_set l k x, counts_set l k x) (reads_turn h (heads_of l) (counts_of l) k x.head x.count b ea en c)
 
 module _ (chains packed : List Entry) (k place v : ℕ) (ev : v ≡ first_for place (get_or chains k none).count) where
   pub packed_turn :

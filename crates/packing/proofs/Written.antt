@@ -33,10 +33,10 @@ module _ (rest heads counts out₀ out : List ℕ) (d place : ℕ) (w : Writes (
       used_next c d
       ∙ ap (λ k. used_to c d + k) (ap length (chain_is rest heads counts (suc d)) ∙ length_contents rest (get_or counts (suc d) 0) (get_or heads (suc d) 0))
 
-  fit_next : 4 * used_to c 11 ≤ length out₀ → 4 * (place + get_or counts (suc d) 0) ≤ length out + 4
+  pub fit_next : 4 * used_to c 11 ≤ length out₀ → 4 * (place + get_or counts (suc d) 0) ≤ length out + 4
   fit_next f = omega (arith, w.next, w.len, f, count_is, used_least c (suc d) 11 (omega arith))
 
-  turn_next :
+  pub turn_next :
       (out' : List ℕ) → length out' ≡ length out
       → take (4 * (place + get_or counts (suc d) 0) - 4) out'
       ≡ take (4 * place - 4) out ++ chain_words place (contents rest (get_or counts (suc d) 0) (get_or heads (suc d) 0))
@@ -67,26 +67,6 @@ module _ (rest heads counts out₀ out : List ℕ) (d place : ℕ) (w : Writes (
         where
           shut : c (suc d) ≡ contents rest (get_or counts (suc d) 0) (get_or heads (suc d) 0)
           shut = chain_is rest heads counts (suc d)
-
--- at chain k, where the chains below it are written
-module _ (rest heads counts out₀ out : List ℕ) where
-  pub chains_fit :
-      (k place : ℕ) → Writes (chains_of rest heads counts) out₀ out (k - 1) place → 1 ≤ k → k < 12 → 4 * used_to (chains_of rest heads counts) 11 ≤ length out₀
-      → 4 * (place + get_or counts k 0) ≤ length out + 4
-  chains_fit zero place w o l f = absurd (omega (arith, o))
-  chains_fit (suc d) place w o l f =
-      let before : suc d - 1 ≡ d = omega arith in
-      fit_next rest heads counts out₀ out d place (rw before at w) (omega arith) f
-
-  pub chains_turn :
-      (k place : ℕ) (out' : List ℕ) → Writes (chains_of rest heads counts) out₀ out (k - 1) place → 1 ≤ k → k < 12 → length out' ≡ length out
-      → take (4 * (place + get_or counts k 0) - 4) out' ≡ take (4 * place - 4) out ++ chain_words place (contents rest (get_or counts k 0) (get_or heads k 0))
-      → Writes (chains_of rest heads counts) out₀ out' (k + 1 - 1) (place + get_or counts k 0)
-  chains_turn zero place out' w o l e t = absurd (omega (arith, o))
-  chains_turn (suc d) place out' w o l e t =
-      let before : suc d - 1 ≡ d = omega arith in
-      let after : suc d + 1 - 1 ≡ suc d = omega arith in
-      rw after (turn_next rest heads counts out₀ out d place (rw before at w) (omega arith) out' e t)
 
 -- ---- the free records
 

@@ -1,7 +1,7 @@
 -- The header of a packed state, by the counts of its chains. Assumes nothing.
 use Rattle.std.specs.Prelude.{ℕ, zero, suc, ◌+◌, ◌-◌, ◌≤◌, ◌<◌, ◌≡◌, List, eqb, length, get_or, map, if◌then◌else◌}
 use Rattle.queue_event.specs.declared.chain.Entry.{Entry}
-use Rattle.layout.specs.Records.{chain_count, head_of, count_of}
+use Rattle.layout.specs.Records.{chain_count}
 use Rattle.layout.specs.Packed.{header_word}
 
 -- the heads and the counts of chains, each by itself
@@ -30,14 +30,6 @@ abbrev pub header_from : List ℕ → List ℕ → List ℕ → ℕ → ℕ
 header_from h heads counts = header_word (λ (i : ℕ). get_or h i 0) (λ (k : ℕ). get_or heads k 0) (λ (k : ℕ). get_or counts k 0)
 
 -- ---- what holds while the words are written
-
--- of read_chains: the heads and counts of the chains below k are read
-pub record Reads (h heads counts : List ℕ) (k : ℕ) : Type 0 where
-  pub most : k ≤ 12
-  pub long_heads : length heads ≡ 12
-  pub long_counts : length counts ≡ 12
-  pub firsts : (j : ℕ) → j < k → get_or heads j 0 ≡ head_of h j
-  pub numbers : (j : ℕ) → j < k → get_or counts j 0 ≡ count_of h j
 
 -- of start_chains: the heads of the chains 1 to d are there, and the next record is place
 pub record Starts (counts starts : List ℕ) (d place : ℕ) : Type 0 where

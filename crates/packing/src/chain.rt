@@ -38,7 +38,8 @@ pub fn copy_chain(from: &Linked, out: &mut [u64], place: u64)
         ≡ take (4 * place - 4) out.old ++ chain_words place (recs (left from.now)) }
 {
     let end = place + from.chain.count;
-    for (p, r) in (place..end).zip(*from) {
+    for (i, r) in from.enumerate() {
+        let p = place + i as u64;
         copy_record(&r, out, p, link(end - p, p));
     }
 }

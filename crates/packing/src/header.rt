@@ -2,30 +2,18 @@
 ghost use Rattle.std.specs.Prelude.{◌≡◌, ℕ, ◌<◌, ◌≤◌, length, get_or, take};
 ghost use Rattle.layout.specs.Records.{head_of, count_of};
 ghost use Rattle.layout.specs.Opened.{table};
-ghost use Rattle.layout.specs.Spare.{spare as spare_at};
 ghost use Rattle.packing.specs.Heads.{sum_to, first_for, start_of, header_from, heads_of, counts_of};
 
 use layout::HEADER_WORDS;
 use queue_event::chain::Entry;
-
-// Whether word i of the header has no meaning.
-#[tactic(auto, unfolding(layout::specs::Spare::spare))]
-fn spare(i: usize) -> bool
-    ensures { result ≡ spare_at i }
-{
-    matches!(i, 18..=23 | 48..=63 | 192..=255)
-}
+use std::array;
 
 // The twelve chains of a header.
 pub fn read_chains(head: &[u64; 256]) -> [Entry; 12]
     ensures heads { (k : ℕ) → k < 12 → get_or (heads_of result) k 0 ≡ head_of head.now k }
     ensures counts { (k : ℕ) → k < 12 → get_or (counts_of result) k 0 ≡ count_of head.now k }
 {
-    let mut chains = [Entry { head: 0, count: 0 }; 12];
-    for k in 0..12 {
-        chains[k] = Entry::of(head, k);
-    }
-    chains
+    array::from_fn(|k| Entry::of(head, k))
 }
 
 // The head of a chain that is written from place on: 0 where it has no record.
@@ -43,6 +31,7 @@ pub fn start_chains(chains: &[Entry; 12]) -> [Entry; 12]
 {
     let mut packed = *chains;
     let mut place = 1;
+    // by number: with packed[1..].iter_mut() the goal of the heads on return stayed open (c), in the time there was
     for k in 1..12 {
         packed[k].head = first(place, chains[k].count);
         place += chains[k].count;
@@ -51,18 +40,21 @@ pub fn start_chains(chains: &[Entry; 12]) -> [Entry; 12]
     packed
 }
 
-// Word i of a header, with these chains in the place of its own.
+// Word i of a header, with these chains in the place of its own, and 0 for a word without a meaning.
+#[tactic(auto, unfolding(layout::specs::Spare::spare, layout::specs::Packed::header_word))]
 fn header_word(head: &[u64; 256], chains: &[Entry; 12], i: usize) -> u64
     requires { i < 256 }
     ensures { result ≡ header_from head.now (heads_of chains.now) (counts_of chains.now) i }
 {
-    if spare(i) {
-        return 0;
+    // A match tests from the lowest on, and most words are above these.
+    if i >= 64 {
+        return if i < 192 { head[i] } else { 0 };
     }
     match i {
+        0..=17 => head[i],
         24..=47 if i % 2 == 0 => chains[(i - 24) / 2].head,
         24..=47 => chains[(i - 24) / 2].count,
-        _ => head[i],
+        _ => 0,
     }
 }
 

@@ -17,13 +17,13 @@ fn write_chains(rest: &[u64], chains: &[Entry; 12], out: &mut [u64]) -> u64
         ≡ used_words (chains_of rest.now (heads_of chains.now) (counts_of chains.now)) 11 }
 {
     let mut place = 1;
-    for k in 1..12 {
-        let chain = Linked {
+    for &chain in &chains[1..] {
+        let linked = Linked {
             records: rest,
-            chain: chains[k],
+            chain,
         };
-        chain::copy_chain(&chain, out, place);
-        place += chains[k].count;
+        chain::copy_chain(&linked, out, place);
+        place += chain.count;
     }
     place
 }

@@ -5,7 +5,6 @@ use mathlib.Core.Bool.{Bool, true, false}
 use mathlib.Core.List.{List}
 use mathlib.Core.Option.{Option as RulesOption, none, some}
 use native.Mathlib.Omega.{arith}
-use lib.ListN.{get_or}
 use Rattle.moment.specs.declared.Moment.{Moment}
 use Rattle.std.specs.Prelude.{if◌then◌else◌, Option, Some, None}
 use Rattle.rules.specs.Basics.{before, rank}
@@ -20,14 +19,13 @@ use Rattle.queue_event.specs.Tag.{kind_field}
 use Rattle.layout.specs.Records.{head_of, count_of}
 use Rattle.layout.specs.Accepted.{Good}
 use Rattle.layout.specs.Layout.{state_from}
-use Rattle.layout.specs.Changes.{side_no}
 use Rattle.layout.proofs.Order.{rank_kind}
 use Rattle.queue.specs.declared.header.Queue.{Queue}
 use Rattle.queue.specs.declared.header.Queue.TheVariants.{Base, Blocking, Bypassable, Internal}
 use Rattle.queue.specs.declared.peek.Head.{Head}
 use Rattle.queue.specs.declared.peek.Key.{Key}
 use Rattle.queue.specs.Queues.{queue_of}
-use Rattle.queue.specs.Heads.{found_of, head_from, side_held, number_of, Stands, Peeked, PeekedBoth, added_to, chain_head, key_head, Tells, KeyOf, FirstKey, SecondSooner}
+use Rattle.queue.specs.Heads.{found_of, head_from, side_held, number_of, Stands, Peeked, PeekedBoth, added_to, chain_head, key_head, Tells, KeyOf, FirstKey, SecondSooner, first_in, key_before}
 use Rattle.event.specs.declared.SimEvent.{SimEvent}
 use Rattle.queue.proofs.HeadsChains.{none_there, head_moment, head_plus, first_there}
 use Rattle.queue.proofs.HeadsOrder.{stands_on}
@@ -35,8 +33,8 @@ use Rattle.queue.proofs.HeadsSides.{sum_held, sum_small}
 
 -- ---- what is added to a queue's moments
 
-pub added_base : (h rs : List ℕ) (b : Bool) (q : Queue) (sum : ℕ) → q ≡ Base → sum ≡ get_or h (10 + side_no (side_of b)) 0 → sum ≡ added_to q (side_held h rs b)
-added_base h rs b q sum eq e = e ∙ sym (sum_held h rs (side_of b)) ∙ ap (λ i. added_to i (side_held h rs b)) (sym eq)
+pub added_base : (x : SideState) (q : Queue) (sum : ℕ) → q ≡ Base → sum ≡ x.sum → sum ≡ added_to q x
+added_base x q sum eq e = e ∙ ap (λ i. added_to i x) (sym eq)
 
 pub added_small : (h rs : List ℕ) (b : Bool) (q : Queue) → Good h rs → added_to q (side_held h rs b) ≤ moment_limit
 added_small h rs b Base g = sum_small h rs b (side_held h rs b).sum g (sum_held h rs (side_of b))
@@ -144,21 +142,15 @@ module _ (a : Key) where
         go x (some y) none ka kb = ka
         go x (some y) (some z) ka kb = rw (sym (told_moment b a z y kb.tells ka.tells) ∙ sym er ∙ e) ka
 
--- the same of what the code holds
-module _ (a b : Option Key) where
-  pub first_none : a ≡ None → FirstKey a b b
-  first_none ea = rw ea (first_none_of b)
-
-  module _ (x : Key) (ea : a ≡ Some x) where
-    pub first_only : b ≡ None → FirstKey a b (Some x)
-    first_only eb = rw (ea, eb) (first_only_of x)
-
-    module _ (y : Key) (eb : b ≡ Some y) (r : Bool) (er : r ≡ before y.moment.0 y.rank x.moment.0 x.rank) where
-      pub second_key : r ≡ true → FirstKey a b (Some y)
-      second_key e = rw (ea, eb) (second_key_of x y r er e)
-
-      pub first_key : r ≡ false → FirstKey a b (Some x)
-      first_key e = rw (ea, eb) (first_key_of x y r er e)
+-- the same of what the code chooses
+pub keys_chosen : (a b r : Option Key) → r ≡ first_in key_before a b → FirstKey a b r
+keys_chosen None b r e = rw e (first_none_of b)
+keys_chosen (Some x) None r e = rw e (first_only_of x)
+keys_chosen (Some x) (Some y) r e = go (key_before y x) refl
+  where
+    go : (t : Bool) → key_before y x ≡ t → FirstKey (Some x) (Some y) r
+    go true p = rw (e ∙ ap (λ t. if t then Some y else Some x) p) (second_key_of x y true (sym p) refl)
+    go false p = rw (e ∙ ap (λ t. if t then Some y else Some x) p) (first_key_of x y false (sym p) refl)
 
 -- ---- the sooner of the keys of two sides
 
@@ -209,10 +201,11 @@ module _ (t : ℕ) (a b : Option Key) where
 -- ---- the key of a side, and the head that a key names
 
 pub side_keyed :
-    (x : SideState) (y k i s p o r : Option Key) → KeyOf x y (chain_head Bypassable x) → KeyOf x k (chain_head Blocking x) → FirstKey y k p → KeyOf x i (chain_head Internal x) → FirstKey p i o
-    → KeyOf x s (chain_head Base x) → FirstKey s o r → KeyOf x r (side_head x)
+    (x : SideState) (y k i s p o r : Option Key) → KeyOf x y (chain_head Bypassable x) → KeyOf x k (chain_head Blocking x) → p ≡ first_in key_before y k → KeyOf x i (chain_head Internal x)
+    → o ≡ first_in key_before p i → KeyOf x s (chain_head Base x) → r ≡ first_in key_before s o → KeyOf x r (side_head x)
 unfolding side_head
-side_keyed x y k i s p o r ky kk fp ki fo ks fr = fr.is x _ _ ks (fo.is x _ _ (fp.is x _ _ ky kk) ki)
+side_keyed x y k i s p o r ky kk ep ki eo ks er =
+    (keys_chosen s o r er).is x _ _ ks ((keys_chosen p i o eo).is x _ _ ((keys_chosen y k p ep).is x _ _ ky kk) ki)
 
 module _ (h rs : List ℕ) (b : Bool) where
   pub named_none : (k : Option Key) → k ≡ None → Peeked h rs b None (key_head k (side_held h rs b))

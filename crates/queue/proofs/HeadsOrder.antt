@@ -4,7 +4,7 @@ use mathlib.Core.Path.{◌≡◌, refl, sym, ap, ap₂, subst, ◌∙◌}
 use mathlib.Core.Bool.{Bool, true, false}
 use mathlib.Core.Logic.{◌⊎◌, inl, inr}
 use mathlib.Core.List.{List}
-use mathlib.Core.Option.{Option as RulesOption}
+use mathlib.Core.Option.{Option as RulesOption, some}
 use native.Mathlib.Omega.{arith}
 use Rattle.std.specs.Prelude.{if◌then◌else◌, Option, Some, None}
 use Rattle.rules.specs.Basics.{before, rank}
@@ -12,51 +12,45 @@ use Rattle.rules.specs.ChoiceHeads.{first_by, by_moment, by_raw_moment, Head as 
 use Rattle.event.specs.Values.{kind_at}
 use Rattle.layout.proofs.Order.{rank_kind}
 use Rattle.queue.specs.declared.peek.Head.{Head}
-use Rattle.queue.specs.Heads.{head_from, found_of, HeadOk, Stands, StandsOn, Known, Peeked, Chosen}
+use Rattle.queue.specs.Heads.{head_from, found_of, HeadOk, Stands, StandsOn, Known, Peeked, Chosen, first_in, head_before, raw_before}
 
 -- ---- (moment, rank)
 
-module _ (a b : Head) (r : Bool) (ka : a.event.kind.0 ≤ 9) (kb : b.event.kind.0 ≤ 9) where
+module _ (a b : Head) (ka : a.event.kind.0 ≤ 9) (kb : b.event.kind.0 ≤ 9) where
   ranked : (x y : ℕ) → before x a.event.kind.0 y b.event.kind.0 ≡ before x (rank (kind_at a.event.kind.0)) y (rank (kind_at b.event.kind.0))
   ranked x y = ap₂ (λ i j. before x i y j) (sym (rank_kind a.event.kind.0 (omega arith))) (sym (rank_kind b.event.kind.0 (omega arith)))
 
+  -- docs/PORT.md names it
   pub by_moment_lem :
-      (x y : ℕ) → x ≡ a.event.kind.0 → y ≡ b.event.kind.0 → r ≡ before a.moment.0 x b.moment.0 y → r ≡ by_moment (head_from a) (head_from b)
+      (r : Bool) (x y : ℕ) → x ≡ a.event.kind.0 → y ≡ b.event.kind.0 → r ≡ before a.moment.0 x b.moment.0 y → r ≡ by_moment (head_from a) (head_from b)
   unfolding head_from
-  by_moment_lem x y ex ey e = e ∙ (λ d. before a.moment.0 (ex d) b.moment.0 (ey d)) ∙ ranked a.moment.0 b.moment.0
+  by_moment_lem r x y ex ey e = e ∙ (λ d. before a.moment.0 (ex d) b.moment.0 (ey d)) ∙ ranked a.moment.0 b.moment.0
 
-  pub by_raw :
-      (x y : ℕ) → x ≡ a.event.kind.0 → y ≡ b.event.kind.0 → r ≡ before a.event.moment.0 x b.event.moment.0 y
-      → r ≡ by_raw_moment (head_from a) (head_from b)
+  head_agrees : head_before a b ≡ by_moment (head_from a) (head_from b)
+  head_agrees = by_moment_lem (head_before a b) a.event.kind.0 b.event.kind.0 refl refl refl
+
+  raw_agrees : raw_before a b ≡ by_raw_moment (head_from a) (head_from b)
   unfolding head_from
-  by_raw x y ex ey e = e ∙ (λ d. before a.event.moment.0 (ex d) b.event.moment.0 (ey d)) ∙ ranked a.event.moment.0 b.event.moment.0
+  raw_agrees = ranked a.event.moment.0 b.event.moment.0
 
--- ---- the first of two
+-- ---- the first of two heads is the rules'
 
-pub known_at : (f : Option Head) (x : Head) → f ≡ Some x → Known f → x.event.kind.0 ≤ 9
-unfolding Known
-known_at f x e k = subst Known e k
-
-module _ (lt : RulesHead → RulesHead → Bool) (a b : Option Head) where
-  pub chosen_none : a ≡ None → Chosen lt a b b
-  unfolding found_of first_by
-  chosen_none e = record { is = ap (λ (f : Option Head). first_by lt (found_of f) (found_of b)) (sym e); one = inr refl }
-
-  module _ (x : Head) (ea : a ≡ Some x) where
-    pub chosen_only : b ≡ None → Chosen lt a b (Some x)
-    unfolding found_of first_by
-    chosen_only e = record { is = ap₂ (λ (f g : Option Head). first_by lt (found_of f) (found_of g)) (sym ea) (sym e); one = inl (sym ea) }
-
-    module _ (y : Head) (eb : b ≡ Some y) (r : Bool) (er : r ≡ lt (head_from y) (head_from x)) where
-      both : (if r then found_of (Some y) else found_of (Some x)) ≡ first_by lt (found_of a) (found_of b)
-      unfolding found_of first_by
-      both = ap (λ t. if t then found_of (Some y) else found_of (Some x)) er ∙ ap₂ (λ (f g : Option Head). first_by lt (found_of f) (found_of g)) (sym ea) (sym eb)
-
-      pub chosen_second : r ≡ true → Chosen lt a b (Some y)
-      chosen_second e = record { is = sym (ap (λ t. if t then found_of (Some y) else found_of (Some x)) e) ∙ both; one = inr (sym eb) }
-
-      pub chosen_first : r ≡ false → Chosen lt a b (Some x)
-      chosen_first e = record { is = sym (ap (λ t. if t then found_of (Some y) else found_of (Some x)) e) ∙ both; one = inl (sym ea) }
+module _ (lt : RulesHead → RulesHead → Bool) (test : Head → Head → Bool) (agrees : (x y : Head) → x.event.kind.0 ≤ 9 → y.event.kind.0 ≤ 9 → test x y ≡ lt (head_from x) (head_from y)) where
+  pub heads_chosen : (a b r : Option Head) → Known a → Known b → r ≡ first_in test a b → Chosen lt a b r
+  unfolding found_of first_by Known
+  heads_chosen None b r ka kb e = record { is = ap found_of e; one = inr e }
+  heads_chosen (Some x) None r ka kb e = record { is = ap found_of e; one = inl e }
+  heads_chosen (Some x) (Some y) r ka kb e = go (test y x) refl
+    where
+      go : (t : Bool) → test y x ≡ t → Chosen lt (Some x) (Some y) r
+      go true p = let second : r ≡ Some y = e ∙ ap (λ t. if t then Some y else Some x) p in record {
+        is = ap found_of second ∙ sym (ap (λ t. if t then some (head_from y) else some (head_from x)) (sym (agrees y x kb ka) ∙ p));
+        one = inr second;
+      }
+      go false p = let first : r ≡ Some x = e ∙ ap (λ t. if t then Some y else Some x) p in record {
+        is = ap found_of first ∙ sym (ap (λ t. if t then some (head_from y) else some (head_from x)) (sym (agrees y x kb ka) ∙ p));
+        one = inl first;
+      }
 
 -- ---- what was found stays found
 
@@ -77,6 +71,19 @@ module _ (h rs : List ℕ) where
       go : (r ≡ f) ⊎ (r ≡ g) → Stands h rs b r
       go (inl e) = subst (Stands h rs b) (sym e) pf.stands
       go (inr e) = subst (Stands h rs b) (sym e) pg.stands
+
+  -- the same of what the code chooses
+  module _ (b : Bool) (f g r : Option Head) (o p : RulesOption RulesHead) (pf : Peeked h rs b f o) (pg : Peeked h rs b g p) where
+    pub peeked_by :
+        (lt : RulesHead → RulesHead → Bool) (test : Head → Head → Bool) → ((x y : Head) → x.event.kind.0 ≤ 9 → y.event.kind.0 ≤ 9 → test x y ≡ lt (head_from x) (head_from y))
+        → r ≡ first_in test f g → Peeked h rs b r (first_by lt o p)
+    peeked_by lt test agrees e = peeked_first b lt f g r o p pf pg (heads_chosen lt test agrees f g r (peeked_known b f o pf) (peeked_known b g p pg) e)
+
+    pub peeked_sooner : r ≡ first_in head_before f g → Peeked h rs b r (first_by by_moment o p)
+    peeked_sooner e = peeked_by by_moment head_before (λ x y. head_agrees x y) e
+
+    pub peeked_raw : r ≡ first_in raw_before f g → Peeked h rs b r (first_by by_raw_moment o p)
+    peeked_raw e = peeked_by by_raw_moment raw_before (λ x y. raw_agrees x y) e
 
   pub stands_on : (b : Bool) (f : Option Head) → Stands h rs b f → StandsOn h rs f
   unfolding Stands StandsOn

@@ -9,14 +9,14 @@ use lib.ListN.{get_or}
 use Rattle.rules.specs.Basics.{Side, client, server}
 use Rattle.rules.specs.State.{side}
 use Rattle.rules.specs.Limits.{moment_limit}
-use Rattle.rules.specs.ChoiceHeads.{first_by, by_moment, by_raw_moment, bypassable_head, blocking_head, internal_head, base_head, waiting_head, passing_head}
+use Rattle.rules.specs.ChoiceHeads.{first_by, by_moment, bypassable_head, blocking_head, internal_head, base_head, waiting_head, passing_head}
 use Rattle.event.specs.HandedIn.{side_of}
 use Rattle.layout.specs.Accepted.{Good}
 use Rattle.layout.specs.Layout.{bank, state_from}
 use Rattle.layout.specs.Changes.{side_no}
 use Rattle.queue.specs.declared.peek.Head.{Head}
-use Rattle.queue.specs.Heads.{side_held, Known, Peeked, Chosen}
-use Rattle.queue.proofs.HeadsOrder.{peeked_known, peeked_first}
+use Rattle.queue.specs.Heads.{side_held, Peeked, first_in, head_before, raw_before}
+use Rattle.queue.proofs.HeadsOrder.{peeked_sooner, peeked_raw}
 
 -- ---- words of a side
 
@@ -35,11 +35,6 @@ sum_small h rs b sum g e = rw e (go b)
 -- ---- a side
 
 module _ (h rs : List ℕ) (b : Bool) where
-  pub packet_peeked :
-      (f g r : Option Head) → Peeked h rs b f (bypassable_head (side_held h rs b)) → Peeked h rs b g (blocking_head (side_held h rs b)) → Chosen by_moment f g r
-      → Peeked h rs b r (first_by by_moment (bypassable_head (side_held h rs b)) (blocking_head (side_held h rs b)))
-  packet_peeked f g r pf pg c = peeked_first h rs b by_moment f g r _ _ pf pg c
-
   -- behind a block, by its flag
   module _ (flag : Bool) where
     pub waiting_flagged : (r : Option Head) → flag ≡ true → Peeked h rs b r (blocking_head (side_held h rs b)) → Peeked h rs b r (waiting_head flag (side_held h rs b))
@@ -47,23 +42,20 @@ module _ (h rs : List ℕ) (b : Bool) where
     waiting_flagged r e p = rw e p
 
     pub waiting_plain :
-        (r : Option Head) → flag ≡ false → Peeked h rs b r (first_by by_moment (bypassable_head (side_held h rs b)) (blocking_head (side_held h rs b)))
+        (f g r : Option Head) → flag ≡ false → Peeked h rs b f (bypassable_head (side_held h rs b)) → Peeked h rs b g (blocking_head (side_held h rs b)) → r ≡ first_in head_before f g
         → Peeked h rs b r (waiting_head flag (side_held h rs b))
     unfolding waiting_head
-    waiting_plain r e p = rw e p
+    waiting_plain f g r e pf pg er = rw e (peeked_sooner h rs b f g r _ _ pf pg er)
 
-    module _ (s i f : Option Head) (ps : Peeked h rs b s (base_head (side_held h rs b))) (pi : Peeked h rs b i (internal_head (side_held h rs b))) (cf : Chosen by_moment s i f) where
-      pub passing_peeked : Peeked h rs b f (first_by by_moment (base_head (side_held h rs b)) (internal_head (side_held h rs b)))
-      passing_peeked = peeked_first h rs b by_moment s i f _ _ ps pi cf
+    module _ (s i f : Option Head) (ps : Peeked h rs b s (base_head (side_held h rs b))) (pi : Peeked h rs b i (internal_head (side_held h rs b))) (ef : f ≡ first_in head_before s i) where
+      passing_peeked : Peeked h rs b f (first_by by_moment (base_head (side_held h rs b)) (internal_head (side_held h rs b)))
+      passing_peeked = peeked_sooner h rs b s i f _ _ ps pi ef
 
       pub passing_flagged :
-          (p r : Option Head) → flag ≡ true → Peeked h rs b p (bypassable_head (side_held h rs b)) → Chosen by_raw_moment f p r → Peeked h rs b r (passing_head flag (side_held h rs b))
+          (p r : Option Head) → flag ≡ true → Peeked h rs b p (bypassable_head (side_held h rs b)) → r ≡ first_in raw_before f p → Peeked h rs b r (passing_head flag (side_held h rs b))
       unfolding passing_head
-      passing_flagged p r e pp cr = rw e (peeked_first h rs b by_raw_moment f p r _ _ passing_peeked pp cr)
+      passing_flagged p r e pp er = rw e (peeked_raw h rs b f p r _ _ passing_peeked pp er)
 
       pub passing_plain : flag ≡ false → Peeked h rs b f (passing_head flag (side_held h rs b))
       unfolding passing_head
       passing_plain e = rw e passing_peeked
-
-      pub passing_known : Known f
-      passing_known = peeked_known h rs b f _ passing_peeked

@@ -1,7 +1,7 @@
 -- The code's heads as the rules' own, and what is known of a head that was found. Assumes nothing.
 use Rattle.std.specs.Prelude.{ℕ, ◌+◌, ◌*◌, ◌<◌, ◌≤◌, ◌≡◌, Bool, List, ◌⊎◌, if◌then◌else◌, Option, Some, None}
 use Rattle.std.proofs.Math.Option.{Option as RulesOption, none, some}
-use Rattle.rules.specs.Basics.{rank}
+use Rattle.rules.specs.Basics.{before, rank}
 use Rattle.rules.specs.State.{SideState, side, queue}
 use Rattle.rules.specs.Limits.{moment_limit}
 use Rattle.rules.specs.ChoiceHeads.{head_as, first_by, by_moment, by_delay, Head as RulesHead}
@@ -114,6 +114,22 @@ PeekedIn v client f o = Peeked v.header.now v.records.now client f o
 
 abbrev pub PeekedBothIn : Words → Option Head → RulesOption RulesHead → Type 0
 PeekedBothIn v f o = PeekedBoth v.header.now v.records.now f o
+
+-- the first of two, unless the second is strictly before it
+abbrev pub first_in : {A : Type 0} → (A → A → Bool) → Option A → Option A → Option A
+first_in lt None b = b
+first_in lt (Some x) None = Some x
+first_in lt (Some x) (Some y) = if lt y x then Some y else Some x
+
+-- the rules' orders of heads, told by the code's numbers
+abbrev pub head_before : Head → Head → Bool
+head_before a b = before a.moment.0 a.event.kind.0 b.moment.0 b.event.kind.0
+
+abbrev pub raw_before : Head → Head → Bool
+raw_before a b = before a.event.moment.0 a.event.kind.0 b.event.moment.0 b.event.kind.0
+
+abbrev pub key_before : Key → Key → Bool
+key_before a b = before a.moment.0 a.rank b.moment.0 b.rank
 
 -- of a choice between two: the rules' first of them, and one of the two
 pub record Chosen (lt : RulesHead → RulesHead → Bool) (a b r : Option Head) : Type 0 where

@@ -6,6 +6,7 @@ use Rattle.event.specs.HandedIn.{side_of}
 use Rattle.layout.specs.Layout.{state_from}
 use Rattle.moment.specs.declared.Moment.{Moment}
 use Rattle.queue.specs.declared.view.Words.{Words}
+use Rattle.queue.specs.declared.view.SideView.{SideView}
 
 -- the state that is held, and a side of it
 abbrev pub state_in : Words → State
@@ -13,6 +14,10 @@ state_in v = state_from v.header.now v.records.now
 
 abbrev pub side_in : Words → Bool → SideState
 side_in v client = side (state_in v) (side_of client)
+
+-- the side that a view of one shows
+abbrev pub side_at : SideView → SideState
+side_at v = side_in v.view.words v.client
 
 -- a moment that may be none
 abbrev pub moment_no : Option Moment → RulesOption ℕ

@@ -4,6 +4,15 @@ ghost use Rattle.event.specs.HandedIn.{side_of};
 ghost use Rattle.layout.specs.Changes.{side_no};
 ghost use Rattle.queue.specs.Queues.{queue_no};
 
+// Of both sides together.
+pub const NETWORK_DELAY: usize = 0;
+
+pub const WINDOW: usize = 3;
+
+pub const ENDED: usize = 16;
+
+pub const ROUNDS: usize = 17;
+
 // The first of the two words of a side's field: the client's; the server's comes after it.
 pub const ACTION_DELAY: usize = 4;
 
@@ -22,7 +31,9 @@ pub const TIMERS: usize = 64;
 
 pub const ACTIONS: usize = 96;
 
-// The chains of the client's stamps and of the aggregates of both sides.
+// The chains of the free records, of the client's stamps, and of the aggregates of both sides.
+pub const FREE: usize = 0;
+
 const STAMPS: usize = 5;
 
 pub const AGGREGATES: usize = 11;
@@ -47,6 +58,7 @@ impl Queue {
 }
 
 // Where the word of a side's field stands.
+// This and the numbers of chains and slots are a line each, which one function of three numbers would not shorten.
 pub fn place(field: usize, client: bool) -> usize
     requires { field < 255 }
     ensures { (result ≡ field + side_no (side_of client)) × (result ≤ field + 1) }
@@ -61,11 +73,20 @@ pub fn stamps(client: bool) -> usize
     if client { STAMPS } else { STAMPS + 5 }
 }
 
-// The number of a machine's slot: the client's sixteen, then the server's.
-pub fn slot(client: bool, machine: u64) -> usize
-    requires { machine < 16 }
-    ensures { (result ≡ 16 * side_no (side_of client) + machine) × (result < 32) }
-{
-    let own = machine as usize;
-    if client { own } else { 16 + own }
+// A machine's place for a timer and an action.
+#[derive(Clone, Copy)]
+pub struct Slot {
+    pub client: bool,
+    pub machine: u64,
+    pub ghost known: { machine < 16 },
+}
+
+impl Slot {
+    // Its number: the client's sixteen, then the server's.
+    pub fn number(self) -> usize
+        ensures { (result ≡ 16 * side_no (side_of self.client) + self.machine) × (result < 32) }
+    {
+        let own = self.machine as usize;
+        if self.client { own } else { 16 + own }
+    }
 }

@@ -7,4 +7,4 @@ pub mod records;
 pub mod view;
 
 pub use header::Queue;
-pub use view::{View, Words};
+pub use view::{SideView, View, Words};

@@ -1,11 +1,11 @@
 // The heads of the queues, as queue_event.rs and queue.rs find them.
-ghost use Rattle.std.specs.Prelude.{◌≡◌, ◌≤◌, Bool};
-ghost use Rattle.rules.specs.ChoiceHeads.{Head as RulesHead, by_moment, by_raw_moment, side_head, queue_head, waiting_head, passing_head};
-ghost use Rattle.queue.specs.Heads.{head_from, Known, PeekedIn, PeekedBothIn, Chosen};
-ghost use Rattle.queue.specs.Heads.{added_to, chain_head, key_head, KeyOf, FirstKey, SecondSooner};
-ghost use Rattle.queue.specs.Views.{state_in, side_in};
+ghost use Rattle.std.specs.Prelude.{◌≡◌, Bool};
+ghost use Rattle.rules.specs.ChoiceHeads.{side_head, queue_head, waiting_head, passing_head};
+ghost use Rattle.queue.specs.Heads.{PeekedIn, PeekedBothIn, head_before, raw_before, key_before, first_in};
+ghost use Rattle.queue.specs.Heads.{added_to, chain_head, key_head, KeyOf, SecondSooner};
+ghost use Rattle.queue.specs.Views.{state_in, side_at};
 
-use crate::{Queue, View, header};
+use crate::{Queue, SideView, View};
 use event::{Kind, SimEvent};
 use moment::{Length, Moment};
 use queue_event::tag;
@@ -28,132 +28,130 @@ pub struct Key {
     pub rank: u64,
 }
 
-// What is added to the moments of a side's queue: to those of base the side's sum.
-fn added(view: &View, of: Queue, client: bool) -> Length
-    ensures { result.0 ≡ added_to of (side_in view.now.words client) }
-{
-    match of {
-        Queue::Base => Length(view.words.of_side(header::SUM, client)),
-        _ => Length(0),
+impl SideView<'_> {
+    // What is added to the moments of a queue: to those of base the side's sum.
+    fn added(&self, of: Queue) -> Length
+        ensures { result.0 ≡ added_to of (side_at self.now) }
+    {
+        match of {
+            Queue::Base => self.sum().length,
+            _ => Length(0),
+        }
+    }
+
+    // The head of a queue.
+    fn head_of(&self, of: Queue) -> Option<Head>
+        ensures { PeekedIn self.now.view.words self.now.client result (chain_head of (side_at self.now)) }
+    {
+        let first = self.view.head(of.chain(self.client))?;
+        let event = first.event(self.client);
+        let plus = self.added(of);
+        let moment = event.moment.plus(plus);
+        Some(Head {
+            queue: of,
+            place: first.at,
+            event,
+            moment,
+        })
     }
 }
 
-// The head of a side's queue.
-fn head_of(view: &View, of: Queue, client: bool) -> Option<Head>
-    ensures { PeekedIn view.now.words client result (chain_head of (side_in view.now.words client)) }
-{
-    let first = view.head(of.chain(client))?;
-    let event = first.event(client);
-    let plus = added(view, of, client);
-    let moment = event.moment.plus(plus);
-    Some(Head {
-        queue: of,
-        place: first.at,
-        event,
-        moment,
-    })
-}
-
-// An order of heads.
+// An order of heads or keys.
 pub trait Order {
-    ghost before: { RulesHead → RulesHead → Bool };
+    type Of: Copy;
 
-    // Whether the head a is strictly before b.
-    fn earlier(a: Head, b: Head) -> bool
-        requires { (a.event.kind.0 ≤ 9) × (b.event.kind.0 ≤ 9) }
-        ensures { result ≡ before (head_from a) (head_from b) };
+    ghost before: { Self.Of → Self.Of → Bool };
+
+    // Whether a is strictly before b.
+    fn earlier(a: Self::Of, b: Self::Of) -> bool
+        ensures { result ≡ before a b };
 }
 
-// By moment, sums added, then rank.
+// Heads by moment, sums added, then rank.
 pub struct ByMoment;
 
 impl Order for ByMoment {
-    ghost before = { by_moment };
+    type Of = Head;
+
+    ghost before = { head_before };
 
     fn earlier(a: Head, b: Head) -> bool {
         (a.moment, a.event.kind.rank()) < (b.moment, b.event.kind.rank())
     }
 }
 
-// By the moment as it was queued, then rank.
+// Heads by the moment as it was queued, then rank.
 pub struct ByRawMoment;
 
 impl Order for ByRawMoment {
-    ghost before = { by_raw_moment };
+    type Of = Head;
+
+    ghost before = { raw_before };
 
     fn earlier(a: Head, b: Head) -> bool {
         (a.event.moment, a.event.kind.rank()) < (b.event.moment, b.event.kind.rank())
     }
 }
 
-// The first of two heads, unless the second is strictly before it.
-pub fn first_of<O: Order>(a: Option<Head>, b: Option<Head>) -> Option<Head>
-    requires { Known a × Known b }
-    ensures { Chosen O.before a b result }
+// Keys by moment, then rank.
+pub struct ByKey;
+
+impl Order for ByKey {
+    type Of = Key;
+
+    ghost before = { key_before };
+
+    fn earlier(a: Key, b: Key) -> bool {
+        (a.moment, a.rank) < (b.moment, b.rank)
+    }
+}
+
+// The first of two, unless the second is strictly before it.
+// Of heads that is the rules' choice (`heads_chosen` of proofs/HeadsOrder), and of keys that of the heads they tell of (`keys_chosen` of proofs/HeadsKeys).
+pub fn first_of<O: Order>(a: Option<O::Of>, b: Option<O::Of>) -> Option<O::Of>
+    ensures { result ≡ first_in O.before a b }
 {
-    let Some(x) = a else {
-        return b;
-    };
-    let Some(y) = b else {
-        return a;
+    let (Some(x), Some(y)) = (a, b) else {
+        return a.or(b);
     };
     if O::earlier(y, x) { b } else { a }
 }
 
-// The key of a side's queue.
-fn key_of(view: &View, of: Queue, client: bool) -> Option<Key>
-    ensures { KeyOf (side_in view.now.words client) result (chain_head of (side_in view.now.words client)) }
-{
-    let first = view.head(of.chain(client))?;
-    let plus = added(view, of, client);
-    let moment = first.moment().plus(plus);
-    let kind = Kind(tag::kind(first.tag()));
-    Some(Key {
-        queue: of,
-        moment,
-        rank: kind.rank(),
-    })
-}
-
-// The first of two keys, unless the second is strictly earlier.
-// Not `first_of` of a generic type: that promises the order of the rules' heads that two heads are, and a key is of no one head.
-fn first_key(a: Option<Key>, b: Option<Key>) -> Option<Key>
-    ensures { FirstKey a b result }
-{
-    let Some(x) = a else {
-        return b;
-    };
-    let Some(y) = b else {
-        return a;
-    };
-    if (y.moment, y.rank) < (x.moment, x.rank) {
-        b
-    } else {
-        a
+impl SideView<'_> {
+    // The key of a queue.
+    fn key_of(&self, of: Queue) -> Option<Key>
+        ensures { KeyOf (side_at self.now) result (chain_head of (side_at self.now)) }
+    {
+        let first = self.view.head(of.chain(self.client))?;
+        let plus = self.added(of);
+        let moment = first.moment().plus(plus);
+        let kind = Kind(tag::kind(first.tag()));
+        Some(Key {
+            queue: of,
+            moment,
+            rank: kind.rank(),
+        })
     }
-}
 
-// `EventQueue::peek`: base, unless the first of the others is strictly earlier.
-fn side_key(view: &View, client: bool) -> Option<Key>
-    ensures { KeyOf (side_in view.now.words client) result (side_head (side_in view.now.words client)) }
-{
-    let bypassable = key_of(view, Queue::Bypassable, client);
-    let blocking = key_of(view, Queue::Blocking, client);
-    let packet = first_key(bypassable, blocking);
-    let internal = key_of(view, Queue::Internal, client);
-    let others = first_key(packet, internal);
-    let base = key_of(view, Queue::Base, client);
-    first_key(base, others)
-}
+    // `EventQueue::peek`: base, unless the first of the others is strictly earlier.
+    fn key(&self) -> Option<Key>
+        ensures { KeyOf (side_at self.now) result (side_head (side_at self.now)) }
+    {
+        let bypassable = self.key_of(Queue::Bypassable);
+        let blocking = self.key_of(Queue::Blocking);
+        let packet = first_of::<ByKey>(bypassable, blocking);
+        let internal = self.key_of(Queue::Internal);
+        let others = first_of::<ByKey>(packet, internal);
+        let base = self.key_of(Queue::Base);
+        first_of::<ByKey>(base, others)
+    }
 
-// The head of the queue that a key names, read whole.
-fn keyed(view: &View, key: Option<Key>, client: bool) -> Option<Head>
-    ensures { PeekedIn view.now.words client result (key_head key (side_in view.now.words client)) }
-{
-    let Some(k) = key else {
-        return None;
-    };
-    head_of(view, k.queue, client)
+    // The head of the queue that a key names, read whole.
+    fn keyed(&self, key: Option<Key>) -> Option<Head>
+        ensures { PeekedIn self.now.view.words self.now.client result (key_head key (side_at self.now)) }
+    {
+        self.head_of(key?.queue)
+    }
 }
 
 // Whether the server's head is strictly before the client's, by the delay from the time and then by rank.
@@ -175,36 +173,40 @@ fn server_sooner(client: Option<Key>, server: Option<Key>, time: Moment) -> bool
 pub fn peek(view: &View, time: Moment) -> Option<Head>
     ensures { PeekedBothIn view.now.words result (queue_head (state_in view.now.words) time.0) }
 {
-    let client = side_key(view, true);
-    let server = side_key(view, false);
-    if server_sooner(client, server, time) {
-        return keyed(view, server, false);
+    let client = view.side(true);
+    let server = view.side(false);
+    let first = client.key();
+    let second = server.key();
+    if server_sooner(first, second, time) {
+        return server.keyed(second);
     }
-    keyed(view, client, true)
+    client.keyed(first)
 }
 
-// `peek_blocking`: the first waiting packet; behind a bypassable block the bypassable queue does not wait.
-pub fn peek_blocking(view: &View, bypassable: bool, client: bool) -> Option<Head>
-    ensures { PeekedIn view.now.words client result (waiting_head bypassable (side_in view.now.words client)) }
-{
-    let blocking = head_of(view, Queue::Blocking, client);
-    if bypassable {
-        return blocking;
+impl SideView<'_> {
+    // `peek_blocking`: the first waiting packet; behind a bypassable block the bypassable queue does not wait.
+    pub fn peek_blocking(&self, bypassable: bool) -> Option<Head>
+        ensures { PeekedIn self.now.view.words self.now.client result (waiting_head bypassable (side_at self.now)) }
+    {
+        let blocking = self.head_of(Queue::Blocking);
+        if bypassable {
+            return blocking;
+        }
+        let passing = self.head_of(Queue::Bypassable);
+        first_of::<ByMoment>(passing, blocking)
     }
-    let passing = head_of(view, Queue::Bypassable, client);
-    first_of::<ByMoment>(passing, blocking)
-}
 
-// `peek_non_blocking`: what a block does not hold back; bypassable is weighed against base by the raw moment.
-pub fn peek_non_blocking(view: &View, bypassable: bool, client: bool) -> Option<Head>
-    ensures { PeekedIn view.now.words client result (passing_head bypassable (side_in view.now.words client)) }
-{
-    let base = head_of(view, Queue::Base, client);
-    let internal = head_of(view, Queue::Internal, client);
-    let found = first_of::<ByMoment>(base, internal);
-    if !bypassable {
-        return found;
+    // `peek_non_blocking`: what a block does not hold back; bypassable is weighed against base by the raw moment.
+    pub fn peek_non_blocking(&self, bypassable: bool) -> Option<Head>
+        ensures { PeekedIn self.now.view.words self.now.client result (passing_head bypassable (side_at self.now)) }
+    {
+        let base = self.head_of(Queue::Base);
+        let internal = self.head_of(Queue::Internal);
+        let found = first_of::<ByMoment>(base, internal);
+        if !bypassable {
+            return found;
+        }
+        let packet = self.head_of(Queue::Bypassable);
+        first_of::<ByRawMoment>(found, packet)
     }
-    let packet = head_of(view, Queue::Bypassable, client);
-    first_of::<ByRawMoment>(found, packet)
 }

@@ -3,21 +3,29 @@ use Prim.Native.Nat.{ℕ, zero, suc}
 use native.Mathlib.Omega.{arith}
 use mathlib.Core.Path.{◌≡◌, refl, sym, ap, ◌∙◌}
 use mathlib.Core.List.{List, [], ◌∷◌, ◌++◌}
+use Rattle.std.specs.Prelude.{Option, Some, IfSome}
+use Rattle.std.specs.Iterator.{Drains}
+use Rattle.std.specs.List.{last_or}
 use Rattle.queue_event.specs.Words.{put, filled, next_of, tag_of, In}
 use Rattle.queue_event.specs.Chain.{mark_of, Chain, Node, nodes}
 use Rattle.queue_event.specs.Links.{fresh, link_by, pred_by, Joined}
 use Rattle.queue_event.specs.Tail.{last_of, every, Appended}
+use Rattle.queue_event.specs.Walks.{left, Walked, number_or, Finds}
+use Rattle.queue_event.specs.declared.chain.Linked.{Linked}
+use Rattle.queue_event.specs.declared.read.Record.{Record}
 use Rattle.queue_event.proofs.Links.{zero_off, pred_not, join_front, join_after}
 
 -- ---- the walk to the last record
 
-pub last_turn : (goal p : ℕ) (y : Node) (l x : List Node) → l ≡ y ∷ x → last_of l p ≡ goal → last_of x y.at ≡ goal
+-- what turns from s give last is the last record of those left, and o where none is
+pub walk_last :
+    (rs : List ℕ) (xs : List Record) (s : Linked) (o : Option Record) → s.records.now ≡ rs → IfSome o (λ x. x.records.now ≡ rs) → Drains Walked s xs
+    → Finds rs (last_of (left s) (number_or 0 o)) (last_or o xs)
 unfolding last_of
-last_turn goal p y l x e z = sym (ap (λ q. last_of q p) e) ∙ z
-
-pub last_end : (goal p : ℕ) (l : List Node) → l ≡ [] → last_of l p ≡ goal → p ≡ goal
-unfolding last_of
-last_end goal p l e z = sym (ap (λ q. last_of q p) e) ∙ z
+walk_last rs [] s o er f (u, (t, e, w)) = record { number = sym (ap (λ l. last_of l (number_or 0 o)) (ap left e ∙ w.0)); of = f }
+walk_last rs (x ∷ xs) s o er f (u, (t, (j, a, y), w)) =
+    let n = walk_last rs xs j (Some x) (a.2 ∙ er) (a.1 ∙ er) (u, (t, y, w)) in
+    record { number = n.number ∙ sym (ap (λ l. last_of l (number_or 0 o)) a.0); of = n.of }
 
 -- ---- appending is linking after all records
 

@@ -4,7 +4,7 @@ use native.Mathlib.Omega.{arith}
 use mathlib.Core.Path.{◌≡◌, refl, ap, ◌∙◌}
 use mathlib.Core.Bool.{Bool, true, false}
 use Rattle.queue_event.specs.Tag.{mark_of, kind_field, padding_field, bypass_field, replace_field, side_field, machine_field}
-use Rattle.queue_event.specs.Tag.{bit, flag, side_bit, is_client, event_tag, aggregate_tag, stamp_tag}
+use Rattle.queue_event.specs.Tag.{bit, flag, event_tag, aggregate_tag, stamp_tag}
 
 -- ---- flags
 
@@ -16,10 +16,6 @@ pub bit_flag : (n : ℕ) → n < 2 → bit (flag n) ≡ n
 bit_flag zero l = refl
 bit_flag (suc zero) l = refl
 bit_flag (suc (suc n)) l = absurd (omega arith)
-
-pub client_bit : (b : Bool) → is_client (side_bit b) ≡ b
-client_bit true = refl
-client_bit false = refl
 
 pub small_bit : (b : Bool) → bit b < 2
 small_bit true = omega arith
@@ -149,39 +145,12 @@ module _ (t : ℕ) where
   low : t ≡ mark_of t + 16 * (t / 16)
   low = omega arith
 
-  above_kind : t / 16 ≡ kind_field t + 16 * (t / 256)
-  above_kind = omega arith
-
-  above_padding : t / 256 ≡ padding_field t + 2 * (t / 512)
-  above_padding = omega arith
-
-  above_bypass : t / 512 ≡ bypass_field t + 2 * (t / 1024)
-  above_bypass = omega arith
-
-  above_replace : t / 1024 ≡ replace_field t + 2 * (t / 2048)
-  above_replace = omega arith
-
-  above_side : t / 2048 ≡ side_field t + 2 * (t / 4096)
-  above_side = omega arith
-
   top : t < 65536 → t / 4096 ≡ machine_field t
   top l = omega arith
 
 -- the same over plain numbers: each is a field and what stands above it
 summed : (t a b c d e g q₁ q₂ q₃ q₄ q₅ : ℕ) → t ≡ a + 16 * q₁ → q₁ ≡ b + 16 * q₂ → q₂ ≡ c + 2 * q₃ → q₃ ≡ d + 2 * q₄ → q₄ ≡ e + 2 * q₅ → q₅ ≡ 0 + 2 * g → t ≡ a + 16 * b + 256 * c + 512 * d + 1024 * e + 4096 * g
 summed t a b c d e g q₁ q₂ q₃ q₄ q₅ h₁ h₂ h₃ h₄ h₅ h₆ = omega arith
-
-by_fields : (t : ℕ) → t < 65536 → side_field t ≡ 0 → t ≡ mark_of t + 16 * kind_field t + 256 * padding_field t + 512 * bypass_field t + 1024 * replace_field t + 4096 * machine_field t
-by_fields t l e =
-    summed t (mark_of t) (kind_field t) (padding_field t) (bypass_field t) (replace_field t) (machine_field t) (t / 16) (t / 256) (t / 512) (t / 1024) (t / 2048)
-    (low t) (above_kind t) (above_padding t) (above_bypass t) (above_replace t) (above_side t ∙ ap (λ x. x + 2 * (t / 4096)) e ∙ ap (λ x. 0 + 2 * x) (top t l))
-
-bit_field : (x : ℕ) → bit (flag (x % 2)) ≡ x % 2
-bit_field x = bit_flag (x % 2) (omega arith)
-
-pub event_fixed : (t : ℕ) → t < 65536 → side_field t ≡ 0 → t ≡ event_tag (mark_of t) (kind_field t) (flag (padding_field t)) (flag (bypass_field t)) (flag (replace_field t)) (machine_field t)
-unfolding event_tag
-event_fixed t l e = rw (bit_field (t / 256), bit_field (t / 512), bit_field (t / 1024)) (by_fields t l e)
 
 -- ---- tags of aggregates and stamps
 
@@ -197,21 +166,6 @@ pub aggregate_mark : (client : Bool) → mark_of (aggregate_tag client) ≡ 11
 unfolding aggregate_tag
 aggregate_mark true = refl
 aggregate_mark false = refl
-
-pub aggregate_kind : (client : Bool) → kind_field (aggregate_tag client) ≡ 0
-unfolding aggregate_tag
-aggregate_kind true = refl
-aggregate_kind false = refl
-
-pub aggregate_side : (client : Bool) → is_client (side_field (aggregate_tag client)) ≡ client
-unfolding aggregate_tag
-aggregate_side true = refl
-aggregate_side false = refl
-
-pub aggregate_small : (client : Bool) → aggregate_tag client < 65536
-unfolding aggregate_tag
-aggregate_small true = omega arith
-aggregate_small false = omega arith
 
 pub stamp_mark : (chain : ℕ) → chain < 16 → mark_of (stamp_tag chain) ≡ chain
 unfolding stamp_tag

@@ -1,14 +1,13 @@
 -- Laws of looking through a window of time in a chain in order. Assumes nothing.
-use Prim.Native.Nat.{ℕ, ◌-◌, ◌≤◌, ◌<◌, max}
+use Prim.Native.Nat.{ℕ, ◌-◌, ◌<◌, max}
 use native.Mathlib.Omega.{arith}
 use mathlib.Core.Path.{◌≡◌, refl, sym, ap, subst, ◌∙◌}
 use mathlib.Core.Bool.{Bool, true, false, ◌||◌}
 use mathlib.Core.List.{List, [], ◌∷◌}
 use lib.Dec.{leb}
-use borrow.Author.Tests.{leb-false, le-leb, lt-leb}
+use borrow.Author.Tests.{leb-false, lt-leb}
 use Rattle.queue_event.specs.Words.{moment_of}
 use Rattle.queue_event.specs.Chain.{pick, Node, rec_at, nodes, recs, contents}
-use Rattle.queue_event.specs.Frame.{node}
 use Rattle.queue_event.specs.Order.{Sorted, First}
 use Rattle.queue_event.specs.Folds.{later, latest_of, any_within}
 use Rattle.queue_event.proofs.Laws.{nodes_next}
@@ -21,7 +20,7 @@ module _ (from window : ℕ) where
   unfolding Sorted First
   next_past x y l s e = lt-leb (y.rec.moment - from) window (omega (arith, leb-false (x.rec.moment - from) window e, (stays_true _ _ _ _ s.0).0))
 
-  past_latest : (best : ℕ) (x : Node) (l : List Node) → Sorted (x ∷ l) → leb (x.rec.moment - from) window ≡ false → latest_of from window best (recs (x ∷ l)) ≡ best
+  pub past_latest : (best : ℕ) (x : Node) (l : List Node) → Sorted (x ∷ l) → leb (x.rec.moment - from) window ≡ false → latest_of from window best (recs (x ∷ l)) ≡ best
   unfolding latest_of later Sorted
   past_latest best x [] s e = ap (λ b. pick b (max best x.rec.moment) best) e
   past_latest best x (y ∷ l) s e =
@@ -41,28 +40,10 @@ module _ (from window : ℕ) where
       go true e = ap (λ b. b || any_within from window (recs l)) e ∙ sym e
       go false e = past_any x l s e ∙ sym e
 
--- ---- latest
-
+-- what follows the first of a list in order is in order too
 pub sorted_rest : (y : Node) (l x : List Node) → l ≡ y ∷ x → Sorted l → Sorted x
 unfolding Sorted
 sorted_rest y l x e s = (subst Sorted e s).1
-
-module _ (rs rs' : List ℕ) (from window goal best r m d : ℕ) (l x : List Node) (e : l ≡ node rs r ∷ x) (er : rs' ≡ rs) (em : m ≡ moment_of rs' r) (ed : d ≡ m - from) where
-  pub latest_turn : (best' : ℕ) → d ≤ window → best' ≡ max best m → latest_of from window best (recs l) ≡ goal → latest_of from window best' (recs x) ≡ goal
-  unfolding latest_of later rec_at
-  latest_turn best' t eb z =
-      rw (eb, em, er)
-      (ap (λ b. latest_of from window (pick b (max best (moment_of rs r)) best) (recs x)) (sym (le-leb _ _ (rw (ed, em, er) at t)))
-      ∙ sym (ap (λ y. latest_of from window best (recs y)) e) ∙ z)
-
-  pub latest_stop : window < d → Sorted l → latest_of from window best (recs l) ≡ goal → best ≡ goal
-  unfolding rec_at
-  latest_stop t s z =
-      sym (ap (λ y. latest_of from window best (recs y)) e ∙ past_latest from window best _ _ (subst Sorted e s) (lt-leb _ _ (rw (ed, em, er) at t))) ∙ z
-
-pub latest_end : (from window goal best : ℕ) (l : List Node) → l ≡ [] → latest_of from window best (recs l) ≡ goal → best ≡ goal
-unfolding latest_of
-latest_end from window goal best l e z = sym (ap (λ y. latest_of from window best (recs y)) e) ∙ z
 
 -- ---- any_within
 
@@ -71,9 +52,9 @@ unfolding any_within nodes
 any_none rs from window n h e = rw e
 
 pub any_first :
-    (rs rs' : List ℕ) (from window n h at m d : ℕ) (b : Bool) → 0 < n → at ≡ h → rs' ≡ rs → Sorted (nodes rs n h) → m ≡ moment_of rs' at → d ≡ m - from → b ≡ leb d window
+    (rs rs' : List ℕ) (from window n h at m : ℕ) (b : Bool) → 0 < n → at ≡ h → rs' ≡ rs → Sorted (nodes rs n h) → m ≡ moment_of rs' at → b ≡ leb (m - from) window
     → b ≡ any_within from window (contents rs n h)
 unfolding rec_at
-any_first rs rs' from window n h at m d b z ea er s em ed eb =
+any_first rs rs' from window n h at m b z ea er s em eb =
     let e = nodes_next rs n h (omega arith) in
-    rw (eb, ed, em, er, ea) (sym (ap (λ l. any_within from window (recs l)) e ∙ first_any from window _ _ (subst Sorted e s)))
+    rw (eb, em, er, ea) (sym (ap (λ l. any_within from window (recs l)) e ∙ first_any from window _ _ (subst Sorted e s)))

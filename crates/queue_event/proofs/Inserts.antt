@@ -1,14 +1,13 @@
--- Laws of the order within a chain, of the search for a new record's place, and of insertion. Assumes nothing.
+-- Laws of the order within a chain, and of insertion. Assumes nothing.
 use Prim.Native.Nat.{ℕ, ◌≤◌, ◌<◌}
 use native.Mathlib.Omega.{arith}
 use mathlib.Core.Path.{◌≡◌, refl, sym, ap, ◌∙◌}
 use mathlib.Core.Bool.{Bool, true, false, not, ◌&&◌, ◌||◌}
 use mathlib.Core.List.{List, [], ◌∷◌}
 use lib.Dec.{leb, ltb, eqb}
-use borrow.Author.Tests.{le-leb, lt-leb, le-ltb, lt-ltb, eq-eqb, ne_eqb, ltb-true, ltb-false, eqb-true, eqb-false}
-use Rattle.queue_event.specs.Words.{put, filled, next_of, moment_of, tag_of, In}
-use Rattle.queue_event.specs.Chain.{pick, mark_of, rank_of, Chain, rec_at, Node, nodes}
-use Rattle.queue_event.specs.Frame.{node}
+use borrow.Author.Tests.{le-leb, lt-leb, le-ltb, eq-eqb, ne_eqb, ltb-true, ltb-false, eqb-true, eqb-false}
+use Rattle.queue_event.specs.Words.{put, filled, next_of, tag_of, In}
+use Rattle.queue_event.specs.Chain.{pick, mark_of, rank_of, Chain, Node, nodes}
 use Rattle.queue_event.specs.Links.{link_by, pred_by, Joined}
 use Rattle.queue_event.specs.Order.{stays, keeps, insert_sorted, spot, fresh, Inserted}
 use Rattle.queue_event.proofs.Links.{join_front, join_after}
@@ -55,24 +54,6 @@ stays_false a s b t = go (ltb b a) refl (eqb b a) refl (ltb (rank_of t) (rank_of
     go false p true q true u e = (omega (arith, eqb-true b a q), λ i. omega (arith, ltb-true (rank_of t) (rank_of s) u))
     go false p true q false u e = absurd (not_both true e)
     go false p false q z u e = absurd (not_both true e)
-
--- ---- the walk that seeks
-
-module _ (rs rs' : List ℕ) (m t goal p r a s : ℕ) (b : Bool) (l x : List Node) (e : l ≡ node rs r ∷ x) (er : rs' ≡ rs) (ea : a ≡ moment_of rs' r) (es : s ≡ tag_of rs' r) (eb : b ≡ stays a s m t)
-    (z : spot l p m t ≡ goal) where
-  spot_step : pick b (spot x r m t) p ≡ goal
-  unfolding spot rec_at
-  spot_step = ap (λ c. pick c (spot x r m t) p) (rw (ea, es, er) at eb) ∙ sym (ap (λ y. spot y p m t) e) ∙ z
-
-  pub seek_turn : b ≡ true → spot x r m t ≡ goal
-  seek_turn k = rw k at spot_step
-
-  pub seek_stop : b ≡ false → p ≡ goal
-  seek_stop k = rw k at spot_step
-
-pub seek_end : (m t goal p : ℕ) (l : List Node) → l ≡ [] → spot l p m t ≡ goal → p ≡ goal
-unfolding spot
-seek_end m t goal p l e z = sym (ap (λ y. spot y p m t) e) ∙ z
 
 -- ---- insertion is linking by the order within a chain
 

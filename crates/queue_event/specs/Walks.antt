@@ -2,6 +2,7 @@
 use Rattle.std.specs.Prelude.{ℕ, ◌<◌, ◌≡◌, List, [], ◌∷◌, Option, None, Some, MatchOption, IfSome}
 use Rattle.queue_event.specs.Chain.{Node, nodes}
 use Rattle.queue_event.specs.Frame.{node}
+use Rattle.queue_event.specs.Tail.{EndsAt}
 use Rattle.queue_event.specs.declared.chain.Linked.{Linked}
 use Rattle.queue_event.specs.declared.read.Record.{Record}
 
@@ -28,3 +29,7 @@ FirstOf rs n h r = MatchOption r (n ≡ 0) (λ x. (0 < n) × (x.at ≡ h) × (x.
 pub record Finds (rs : List ℕ) (goal : ℕ) (r : Option Record) : Type 0 where
   pub number : number_or 0 r ≡ goal
   pub of : IfSome r (λ x. x.records.now ≡ rs)
+
+-- what is told is record r, one of chain number k that nothing follows; where nothing is told nothing is said
+abbrev pub ToldEnd : List ℕ → ℕ → ℕ → Option Record → Type 0
+ToldEnd rs k r o = IfSome o (λ x. (x.records.now ≡ rs) × (x.at ≡ r) × EndsAt rs k r)

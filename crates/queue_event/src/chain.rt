@@ -1,5 +1,5 @@
 // A chain of records: its first record and how many it has, and the walk along it.
-ghost use Rattle.std.specs.Prelude.{◌≡◌, ◌+◌, ◌-◌, ◌*◌, ◌<◌, ◌≤◌, length, get_or};
+ghost use Rattle.std.specs.Prelude.{◌≡◌, ◌+◌, ◌-◌, ◌*◌, ◌<◌, ◌≤◌, leb, length, get_or};
 ghost use Rattle.queue_event.specs.Rows.{Row, Row-prop};
 ghost use Rattle.queue_event.specs.Chain.{mark_of, recs};
 ghost use Rattle.queue_event.specs.Order.{spot, Sorted};
@@ -106,14 +106,8 @@ impl<'a> Linked<'a> {
     pub fn seek(&self, moment: Moment, tag: u64) -> Option<Record<'a>>
         ensures { Finds self.now.records.now (spot (left self.now) 0 moment.0 tag) result }
     {
-        let mut found = None;
-        for r in *self {
-            if !insert::stays(r.moment().0, r.tag(), moment.0, tag) {
-                return found;
-            }
-            found = Some(r);
-        }
-        found
+        self.take_while(|r| insert::stays(r.moment().0, r.tag(), moment.0, tag))
+            .last()
     }
 
     // The same, in a chain that is in order. Where the hint is its last record and stays before the new one, nothing is walked.
@@ -122,11 +116,7 @@ impl<'a> Linked<'a> {
         requires sorted { Sorted (left self.now) }
         ensures { Finds self.now.records.now (spot (left self.now) 0 moment.0 tag) result }
     {
-        if append::is_last(self.records, hint, tag::mark(tag)) {
-            let end = Record {
-                records: self.records,
-                at: hint,
-            };
+        if let Some(end) = append::last_at(self.records, hint, tag::mark(tag)) {
             if insert::stays(end.moment().0, end.tag(), moment.0, tag) {
                 return Some(end);
             }
@@ -138,55 +128,57 @@ impl<'a> Linked<'a> {
     pub fn end(&self) -> Option<Record<'a>>
         ensures { Finds self.now.records.now (last_of (left self.now) 0) result }
     {
-        let mut last = None;
-        for r in *self {
-            last = Some(r);
-        }
-        last
+        (*self).last()
     }
 
     // The last record of chain k. Where the hint is it, nothing is walked.
+    // By `if let` and not `or_else`: of the closure's promise the check knew nothing.
     pub fn end_at(&self, hint: u64, k: u64) -> Option<Record<'a>>
         requires { Ends self.now.records.now k self.now.chain.count self.now.chain.head }
         ensures { Finds self.now.records.now (last_of (left self.now) 0) result }
     {
-        if append::is_last(self.records, hint, k) {
-            return Some(Record {
-                records: self.records,
-                at: hint,
-            });
+        if let Some(end) = append::last_at(self.records, hint, k) {
+            return Some(end);
         }
         self.end()
     }
 }
 
-// What it holds within a window of time.
+// All moments at most a margin after one; those before it are among them.
+#[derive(Clone, Copy)]
+pub struct Reach {
+    pub from: Moment,
+    pub margin: Length,
+}
+
+impl Reach {
+    pub fn has(self, moment: Moment) -> bool
+        ensures { result ≡ leb (moment.0 - self.from.0) self.margin.0 }
+    {
+        moment.since(self.from) <= self.margin
+    }
+}
+
+// What a chain in order holds within reach.
 impl Linked<'_> {
     ghost use Rattle.queue_event.specs.Walks.{left};
 
-    // The latest moment of a chain in order within the window since `from`, at least tail. What comes after a record past the window is past it too.
-    pub fn latest(&self, from: Moment, window: Length, tail: Moment) -> Moment
+    // The latest moment within reach, at least tail. What comes after a record out of reach is out of it too.
+    // `Sorted` is no fact of the type: free records and stamps are walked by it too, and have no order.
+    pub fn latest(&self, reach: Reach, tail: Moment) -> Moment
         requires { Sorted (left self.now) }
-        ensures { result.0 ≡ latest_of from.0 window.0 tail.0 (recs (left self.now)) }
+        ensures { result.0 ≡ latest_of reach.from.0 reach.margin.0 tail.0 (recs (left self.now)) }
     {
-        let mut best = tail;
-        for r in *self {
-            let m = r.moment();
-            if m.since(from) > window {
-                return best;
-            }
-            best = best.max(m);
-        }
-        best
+        self.take_while(|r| reach.has(r.moment()))
+            .fold(tail, |best, r| best.max(r.moment()))
     }
 
-    // Whether some moment of a chain in order is within the window since `from`: its head's is, or none.
+    // Whether some moment is within reach: its head's is, or none.
     #[tactic(auto, using(crate::proofs::Folds::any_none, crate::proofs::Folds::any_first))]
-    pub fn any_within(&self, from: Moment, window: Length) -> bool
+    pub fn any_within(&self, reach: Reach) -> bool
         requires { Sorted (left self.now) }
-        ensures { result ≡ any_within from.0 window.0 (recs (left self.now)) }
+        ensures { result ≡ any_within reach.from.0 reach.margin.0 (recs (left self.now)) }
     {
-        self.first()
-            .is_some_and(|r| r.moment().since(from) <= window)
+        self.first().is_some_and(|r| reach.has(r.moment()))
     }
 }

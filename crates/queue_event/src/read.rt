@@ -1,7 +1,8 @@
 // A record read as what it holds.
-ghost use Rattle.std.specs.Prelude.{◌≡◌};
+ghost use Rattle.std.specs.Prelude.{◌≡◌, MatchOption};
 ghost use Rattle.queue_event.specs.Words.{In, next_of, moment_of, length_of, tag_of};
 ghost use Rattle.queue_event.specs.Chain.{rec_at};
+ghost use Rattle.queue_event.specs.Tail.{SaysEnd};
 ghost use Rattle.queue_event.specs.Values.{read_event, read_aggregate};
 
 use crate::{tag, words};
@@ -14,6 +15,20 @@ pub struct Record<'a> {
     pub records: &'a [u64],
     pub at: u64,
     pub ghost within: { In records.now at },
+}
+
+impl<'a> Record<'a> {
+    // The record of this number, where there is one. Any number may be asked of.
+    #[inline(always)]
+    pub fn numbered(records: &'a [u64], at: u64) -> Option<Record<'a>>
+        ensures { MatchOption result (In records.now at → ⊥) (λ r. (r.records.now ≡ records.now) × (r.at ≡ at)) }
+    {
+        let room = (records.len() / 4) as u64;
+        if at == 0 || room < at {
+            return None;
+        }
+        Some(Record { records, at })
+    }
 }
 
 impl Record<'_> {
@@ -40,6 +55,13 @@ impl Record<'_> {
         ensures { result ≡ tag_of self.now.records.now self.now.at }
     {
         words::get(self.records, self.at, 3)
+    }
+
+    // Whether it is one of chain k that nothing follows.
+    pub fn ends(&self, k: u64) -> bool
+        ensures { SaysEnd self.now.records.now k self.now.at result }
+    {
+        self.next() == 0 && tag::mark(self.tag()) == k
     }
 
     // The event that it holds, in a chain of the side.

@@ -1,4 +1,5 @@
 // The words of a record.
+// The first is the number of the next record: document 01 has chains within the lent words in the place of heaps.
 ghost use Rattle.std.specs.Prelude.{◌≡◌, ◌<◌};
 ghost use Rattle.queue_event.specs.Words.{word, put, filled, In};
 

@@ -1,10 +1,11 @@
 // The blocks of both sides: the next one to end.
 ghost use Rattle.std.specs.Prelude.{◌≡◌, ℕ, List};
 ghost use Rattle.rules.specs.ChoiceDelays.{next_block};
+ghost use Rattle.rules.specs.ChoiceRound.{end_moment};
 ghost use Rattle.event.specs.HandedIn.{side_of};
 ghost use Rattle.layout.specs.Layout.{state_from};
 ghost use Rattle.queue.specs.Heads.{side_held};
-ghost use Rattle.queue_peek.specs.Decoded.{blocked_of, block_of};
+ghost use Rattle.queue_peek.specs.Decoded.{block_from, blocked_of, block_of};
 
 use moment::Moment;
 use queue::Words;
@@ -14,6 +15,15 @@ use queue::Words;
 pub struct BlockEnd {
     pub client: bool,
     pub end: Moment,
+}
+
+impl BlockEnd {
+    // When a round at a time ends it: not before that time.
+    pub fn end_moment(self, time: Moment) -> Moment
+        ensures { result.0 ≡ end_moment time.0 (block_from self) }
+    {
+        self.end.max(time)
+    }
 }
 
 // The end of a side's block, if it has one.

@@ -14,6 +14,7 @@ use queue::peek::Head;
 use queue::{View, Words, header};
 
 // Of an action, of a timer, of a block's end, of the first aggregate, and of the queues' head, which stands beside its delay.
+// Filled by methods that take `mut self`: document 01's form.
 #[derive(Clone, Copy)]
 pub struct Delays {
     pub s: Option<Length>,
@@ -76,6 +77,7 @@ impl Delays {
     }
 
     // The least of the four. None is later than any delay here, and earlier in the order of Option.
+    // By `earlier`, which the rules name, and not as the least of a list without its Nones: that needs a law of `min` for each of the four.
     pub fn least(self) -> Option<Length>
         ensures { delay_of result ≡ least_of (delays_of self) }
     {

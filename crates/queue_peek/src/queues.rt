@@ -1,8 +1,8 @@
 // What the queues offer a round: `peek_queue` and `peek_queue_earliest_side`.
 ghost use Rattle.std.specs.Prelude.{◌≡◌, ◌≤◌};
 ghost use Rattle.rules.specs.ChoiceHeads.{head_delay, held_back, waiting_first, earliest_of_side, earliest_blocked, peek_queue};
-ghost use Rattle.queue.specs.Heads.{found_of, PeekedIn, PeekedBothIn};
-ghost use Rattle.queue.specs.Views.{state_in, side_in};
+ghost use Rattle.queue.specs.Heads.{head_from, found_of, PeekedIn, PeekedBothIn};
+ghost use Rattle.queue.specs.Views.{state_in, side_in, side_at};
 ghost use Rattle.event.specs.Values.{event_value};
 ghost use Rattle.queue_peek.specs.Decoded.{delay_of};
 ghost use Rattle.queue_peek.specs.Promises.{Lifted};
@@ -11,7 +11,7 @@ use crate::order;
 use event::{Kind, SimEvent};
 use moment::{Length, Moment, Time};
 use queue::peek::{Head, Order};
-use queue::{Queue, View, peek};
+use queue::{Queue, SideView, View, peek};
 
 // A head's delay from the time.
 #[tactic(auto, unfolding(crate::specs::Decoded::delay_of, queue::specs::Heads::found_of, queue::specs::Heads::head_from))]
@@ -39,7 +39,9 @@ fn held_back(view: &View, event: SimEvent) -> bool
 struct WaitingFirst;
 
 impl Order for WaitingFirst {
-    ghost before = { waiting_first };
+    type Of = Head;
+
+    ghost before = { λ w p. waiting_first (head_from w) (head_from p) };
 
     fn earlier(w: Head, p: Head) -> bool {
         match p.queue {
@@ -50,6 +52,7 @@ impl Order for WaitingFirst {
 }
 
 // A waiting packet goes when the block ends, at the earliest.
+// By `?` and not by `map`: `search` did not prove the update within a closure.
 fn not_before(waiting: Option<Head>, end: Moment) -> Option<Head>
     ensures { Lifted end.0 waiting result }
 {
@@ -61,13 +64,14 @@ fn not_before(waiting: Option<Head>, end: Moment) -> Option<Head>
 }
 
 // The side value of `peek_queue_earliest_side`.
-fn earliest_of_side(view: &View, client: bool, time: Time) -> Option<Head>
-    ensures { PeekedIn view.now.words client result (earliest_of_side time.at.0 (side_in view.now.words client)) }
+fn earliest_of_side(side: &SideView, time: Time) -> Option<Head>
+    ensures { PeekedIn side.now.view.words side.now.client result (earliest_of_side time.at.0 (side_at side.now)) }
 {
-    let flag = view.words.is_bypassable(client);
-    let passing = peek::peek_non_blocking(view, flag, client);
-    let waiting = peek::peek_blocking(view, flag, client);
-    let end = view.words.block_end(client).unwrap_or(time.at);
+    let words = side.view.words;
+    let flag = words.is_bypassable(side.client);
+    let passing = side.peek_non_blocking(flag);
+    let waiting = side.peek_blocking(flag);
+    let end = words.block_end(side.client).unwrap_or(time.at);
     peek::first_of::<WaitingFirst>(passing, not_before(waiting, end))
 }
 
@@ -75,8 +79,8 @@ fn earliest_of_side(view: &View, client: bool, time: Time) -> Option<Head>
 fn peek_queue_earliest_side(view: &View, time: Time) -> Option<Head>
     ensures { PeekedBothIn view.now.words result (earliest_blocked (state_in view.now.words) time.at.0) }
 {
-    let c = earliest_of_side(view, true, time);
-    let s = earliest_of_side(view, false, time);
+    let c = earliest_of_side(&view.side(true), time);
+    let s = earliest_of_side(&view.side(false), time);
     if order::not_later(head_delay(c, time.at), head_delay(s, time.at)) {
         c
     } else {
@@ -88,10 +92,8 @@ fn peek_queue_earliest_side(view: &View, time: Time) -> Option<Head>
 pub fn offered(view: &View, time: Time, least: Option<Length>) -> Option<Head>
     ensures { PeekedBothIn view.now.words result (peek_queue (state_in view.now.words) time.at.0 (delay_of least)) }
 {
-    let h = peek::peek(view, time.at)?;
-    if !order::not_later(Some(h.moment.since(time.at)), least) {
-        return None;
-    }
+    let found = peek::peek(view, time.at);
+    let h = found.filter(|h| order::not_later(Some(h.moment.since(time.at)), least))?;
     if held_back(view, h.event) {
         return peek_queue_earliest_side(view, time);
     }

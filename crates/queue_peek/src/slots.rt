@@ -13,6 +13,7 @@ ghost use Rattle.queue_peek.specs.Decoded.{delay_of};
 
 use crate::order;
 use moment::{Length, Moment};
+use queue::header::Slot;
 use queue::{View, Words, header};
 
 // The words of a state whose header is within its limits and whose slots are in order.
@@ -38,9 +39,8 @@ pub trait Slots {
     ghost moments: { SideState → List (RulesOption ℕ) };
 
     // The moment that a machine's slot holds.
-    fn moment(words: &Words, client: bool, machine: u64) -> Option<Moment>
-        requires { machine < 16 }
-        ensures { (rs : List ℕ) → moment_no result ≡ held_at (moments (side_held words.now.header.now rs client)) machine };
+    fn moment(words: &Words, slot: Slot) -> Option<Moment>
+        ensures { (rs : List ℕ) → moment_no result ≡ held_at (moments (side_held words.now.header.now rs slot.client)) slot.machine };
 
     // A side has sixteen, and those above its machines hold nothing where the slots are in order.
     ghost sixteen: { (hs rs : List ℕ) (client : Bool) → length (moments (side_held hs rs client)) ≡ 16 };
@@ -57,8 +57,8 @@ impl Slots for Timers {
 
     ghost beyond = { timers_beyond };
 
-    fn moment(words: &Words, client: bool, machine: u64) -> Option<Moment> {
-        Moment::from_stored(words.header[header::TIMERS + header::slot(client, machine)])
+    fn moment(words: &Words, slot: Slot) -> Option<Moment> {
+        words.timer(slot)
     }
 }
 
@@ -71,13 +71,9 @@ impl Slots for Actions {
 
     ghost beyond = { actions_beyond };
 
-    // Of an action's three words the first is 0 where there is none, and the second is its moment.
-    fn moment(words: &Words, client: bool, machine: u64) -> Option<Moment> {
-        let at = header::ACTIONS + 3 * header::slot(client, machine);
-        if words.header[at] == 0 {
-            return None;
-        }
-        Some(Moment(words.header[at + 1]))
+    #[tactic(auto, using(queue::proofs::SlotLaws::moment_none, queue::proofs::SlotLaws::moment_some))]
+    fn moment(words: &Words, slot: Slot) -> Option<Moment> {
+        words.action(slot).map(|a| a.moment)
     }
 }
 
@@ -94,9 +90,11 @@ fn least_delay<S: Slots>(slotted: &Slotted, client: bool, time: Moment) -> Optio
     ensures { (rs : List ℕ) → delay_of result ≡ least_delay time.0 (S.moments (side_held slotted.now.words.header.now rs client)) }
 {
     let machines = slotted.words.of_side(header::MACHINES, client);
+    // By a loop: with `filter_map(..).min()` the goal `returns` stayed open, since the closure's promise is not found where it asks `machine < 16`.
     let mut best = None;
-    for m in (0..machines).rev() {
-        let delay = slot_delay(S::moment(&slotted.words, client, m), time);
+    for machine in (0..machines).rev() {
+        let slot = Slot { client, machine };
+        let delay = slot_delay(S::moment(&slotted.words, slot), time);
         best = order::earlier(delay, best);
     }
     best

@@ -5,7 +5,7 @@ use mathlib.Core.List.{List}
 use mathlib.Core.Option.{Option as MathOption, some}
 use native.Mathlib.Omega.{arith}
 use lib.ListN.{length, take}
-use Rattle.std.specs.Prelude.{Option, Some, None, Result, Ok}
+use Rattle.std.specs.Prelude.{Option, Some, None, Ok}
 use Rattle.moment.specs.declared.Length.{Length}
 use Rattle.rules.specs.State.{Event, in_record}
 use Rattle.rules.specs.Queueing.{push_event}
@@ -20,7 +20,6 @@ use Rattle.event.specs.HandedIn.{aggregate_in}
 use Rattle.event.specs.declared.AggregateDelay.{AggregateDelay}
 use Rattle.event.specs.declared.SimEvent.{SimEvent}
 use Rattle.event.specs.declared.answer.Chosen.{Chosen}
-use Rattle.event.specs.declared.answer.Refusal.{Refusal}
 use Rattle.layout.specs.Layout.{state_of}
 use Rattle.layout.specs.Shape.{Shaped}
 use Rattle.queue.specs.Changes.{head_in}
@@ -40,11 +39,11 @@ use Rattle.round.specs.Cases.{AggregateDue, BlockDue, EventDue, EventTaken, Acti
 use Rattle.round.specs.Rounds.{MayRound, MayAct}
 use Rattle.round.proofs.Lifted.{LiftedAs, candidate_lifted}
 
-pub round_shaped : (w : List ℕ) (now k : ℕ) → MayRound w now k → Shaped w
-round_shaped w now k may = accepted_shaped w may.accepted
+pub round_shaped : (w : List ℕ) (k : ℕ) → MayRound w k → Shaped w
+round_shaped w k may = accepted_shaped w may.accepted
 
-pub rounds_fit : (w : List ℕ) (now k : ℕ) → MayRound w now k → k + 1 < 2 ^ 64
-rounds_fit w now k may = omega (arith, may.finished, (holds_accepted w may.accepted).total)
+pub rounds_fit : (w : List ℕ) (k : ℕ) → MayRound w k → k + 1 < 2 ^ 64
+rounds_fit w k may = omega (arith, may.finished, (holds_accepted w may.accepted).total)
 
 -- ---- what is known of the candidate
 
@@ -62,18 +61,18 @@ module _ (w : List ℕ) (now k : ℕ) (c : Candidate) (may : MayAct w now k c) w
   enough_free = subst (λ (x : RulesCandidate). records_taken (state_of w) now x ≤ length (state_of w).free) (sym may.is) (round_takes_free (state_of w) now held)
 
   act_shaped : Shaped w
-  act_shaped = round_shaped w now k may.round
+  act_shaped = round_shaped w k may.round
 
 -- as the case is told: the candidate given anew
 as_told : (w : List ℕ) (now k : ℕ) (c x : Candidate) → c ≡ x → MayAct w now k c → MayAct w now k x
 as_told w now k c x e may = subst (MayAct w now k) e may
 
-passed_as : (w left : List ℕ) (now k : ℕ) (c x : Candidate) (r : Option (Result Chosen Refusal)) → c ≡ x → Passed w left k (act (state_of w) now (candidate_of (take 256 w) x)) r → Passed w left k (act (state_of w) now (candidate_of (take 256 w) c)) r
-passed_as w left now k c x r e p = subst (λ (y : Candidate). Passed w left k (act (state_of w) now (candidate_of (take 256 w) y)) r) (sym e) p
+passed_as : (w left : List ℕ) (now k : ℕ) (c x : Candidate) (r : Option Chosen) → c ≡ x → Passed w left k (act (state_of w) now (candidate_of (take 256 w) x)) (Ok r) → Passed w left k (act (state_of w) now (candidate_of (take 256 w) c)) (Ok r)
+passed_as w left now k c x r e p = subst (λ (y : Candidate). Passed w left k (act (state_of w) now (candidate_of (take 256 w) y)) (Ok r)) (sym e) p
 
 module _ (w : List ℕ) (now k : ℕ) (c : Candidate) (may : MayAct w now k c) where
   pub act_rounds : k + 1 < 2 ^ 64
-  act_rounds = rounds_fit w now k may.round
+  act_rounds = rounds_fit w k may.round
 
   -- ---- 1. an aggregate
 
@@ -84,7 +83,7 @@ module _ (w : List ℕ) (now k : ℕ) (c : Candidate) (may : MayAct w now k c) w
         let m : MayAct w now k (Aggregate a) = as_told w now k c (Aggregate a) e may in
         record { shaped = act_shaped w now k (Aggregate a) m; first = there w now k (Aggregate a) m; sum = (fits_all _ m.sums).0 }
 
-    pub aggregate_acted : (left : List ℕ) → Becomes w left (take_aggregate (state_of w) (in_record (head_in w 11) (aggregate_in a))) → Passed w left k (act (state_of w) now (candidate_of (take 256 w) c)) None
+    pub aggregate_acted : (left : List ℕ) → Becomes w left (take_aggregate (state_of w) (in_record (head_in w 11) (aggregate_in a))) → Passed w left k (act (state_of w) now (candidate_of (take 256 w) c)) (Ok None)
     unfolding candidate_of
     aggregate_acted left b = passed_as w left now k c (Aggregate a) None e (record { answer = refl; words = b })
 
@@ -97,7 +96,7 @@ module _ (w : List ℕ) (now k : ℕ) (c : Candidate) (may : MayAct w now k c) w
         let m : MayAct w now k (Block b by) = as_told w now k c (Block b by) e may in
         record { accepted = may.round.accepted; set = there w now k (Block b by) m; sum = (fits_all _ m.sums).0; reckoned = m.reckoned }
 
-    pub block_acted : (left : List ℕ) (r : Option (Result Chosen Refusal)) → Passed w left k (end_block (state_of w) now (block_from b)) r → Passed w left k (act (state_of w) now (candidate_of (take 256 w) c)) r
+    pub block_acted : (left : List ℕ) (r : Option Chosen) → Passed w left k (end_block (state_of w) now (block_from b)) (Ok r) → Passed w left k (act (state_of w) now (candidate_of (take 256 w) c)) (Ok r)
     unfolding candidate_of
     block_acted left r p = passed_as w left now k c (Block b by) r e p
 
@@ -110,7 +109,7 @@ module _ (w : List ℕ) (now k : ℕ) (c : Candidate) (may : MayAct w now k c) w
         let m : MayAct w now k (AnEvent h) = as_told w now k c (AnEvent h) e may in
         record { shaped = act_shaped w now k (AnEvent h) m; head = m.stands; lifted = lifted w now k (AnEvent h) m }
 
-    pub event_acted : (left : List ℕ) (r : SimEvent) → EventTaken w left now h r → Passed w left k (act (state_of w) now (candidate_of (take 256 w) c)) (Some (Ok (record { event = Some r; rounds = k + 1 })))
+    pub event_acted : (left : List ℕ) (r : SimEvent) → EventTaken w left now h r → Passed w left k (act (state_of w) now (candidate_of (take 256 w) c)) (Ok (Some (record { event = Some r; rounds = k + 1 })))
     unfolding candidate_of
     event_acted left r t = passed_as w left now k c (AnEvent h) _ e (record { answer = ap (λ (x : MathOption Event). some (chosen_as x (k + 1))) t.event; words = t.words })
 
@@ -123,7 +122,7 @@ module _ (w : List ℕ) (now k : ℕ) (c : Candidate) (may : MayAct w now k c) w
         let m : MayAct w now k (Timer d) = as_told w now k c (Timer d) e may in
         record { shaped = act_shaped w now k (Timer d) m; free = enough_free w now k (Timer d) m }
 
-    pub timer_acted : (left : List ℕ) → Becomes w left (push_event (timer_cleared (state_of w) (due_slot d)) (timer_event (due_slot d) d.moment.0)) → Passed w left k (act (state_of w) now (candidate_of (take 256 w) c)) None
+    pub timer_acted : (left : List ℕ) → Becomes w left (push_event (timer_cleared (state_of w) (due_slot d)) (timer_event (due_slot d) d.moment.0)) → Passed w left k (act (state_of w) now (candidate_of (take 256 w) c)) (Ok None)
     unfolding candidate_of
     timer_acted left b = passed_as w left now k c (Timer d) None e (record { answer = refl; words = b })
 
@@ -136,6 +135,6 @@ module _ (w : List ℕ) (now k : ℕ) (c : Candidate) (may : MayAct w now k c) w
         let m : MayAct w now k (AnAction p) = as_told w now k c (AnAction p) e may in
         record { room = record { shaped = act_shaped w now k (AnAction p) m; free = enough_free w now k (AnAction p) m }; sums = m.sums }
 
-    pub action_acted : (left : List ℕ) → Becomes w left (do_action (state_of w) (planned_slot p) (action_value p.action)) → Passed w left k (act (state_of w) now (candidate_of (take 256 w) c)) None
+    pub action_acted : (left : List ℕ) → Becomes w left (do_action (state_of w) (planned_slot p) (action_value p.action)) → Passed w left k (act (state_of w) now (candidate_of (take 256 w) c)) (Ok None)
     unfolding candidate_of
     action_acted left b = passed_as w left now k c (AnAction p) None e (record { answer = refl; words = b })

@@ -7,7 +7,7 @@ use mathlib.Core.Option.{some}
 use native.Mathlib.Omega.{arith}
 use lib.Dec.{leb}
 use lib.ListN.{length, take, drop}
-use Rattle.queue.specs.Views.{side_in}
+use Rattle.queue.specs.Heads.{side_held}
 use Rattle.queue.specs.declared.view.Words.{Words}
 use borrow.Author.Tests.{leb-true, ne_eqb}
 use Rattle.std.specs.Prelude.{if◌then◌else◌}
@@ -35,10 +35,10 @@ use Rattle.round.proofs.ActionLaws.{side_with}
 -- ---- padding queued, from the words as they are
 
 module _
-    (w : List ℕ) (p : Planned) (room : HasFree w 1) (v : Words) (eh : v.header.now ≡ take 256 w) (er : v.records.now ≡ drop 256 w) (d : Length) (seen : d.0 ≡ (side_in v p.client).fixed.action_delay) (r : SimEvent)
+    (w : List ℕ) (p : Planned) (room : HasFree w 1) (v : Words) (eh : v.header.now ≡ take 256 w) (d : Length) (seen : (rs : List ℕ) → d.0 ≡ (side_held v.header.now rs p.slot.client).fixed.action_delay) (r : SimEvent)
     (shows : Shows r (padding_of (planned_slot p) (action_value p.action) d.0)) where
-  ed : d.0 ≡ (side (state_of w) (side_of p.client)).fixed.action_delay
-  ed = rw (eh, er) at seen
+  ed : d.0 ≡ (side (state_of w) (side_of p.slot.client)).fixed.action_delay
+  ed = let e = rw eh at seen in e (drop 256 w)
 
   here : Becomes w w (state_of w)
   here = record { shaped = room.shaped; state = refl; size = refl; spare = λ i s. refl }
@@ -47,7 +47,7 @@ module _
   padding_may = event_may w w _ _ r here shows room.free
 
   pub padding_done : (w₁ : List ℕ) → Leaves w w₁ (push_event (state_of w) (event_value r))
-      → Becomes w w₁ (push_event (state_of w) (padding_of (planned_slot p) (action_value p.action) (side (state_of w) (side_of p.client)).fixed.action_delay))
+      → Becomes w w₁ (push_event (state_of w) (padding_of (planned_slot p) (action_value p.action) (side (state_of w) (side_of p.slot.client)).fixed.action_delay))
   padding_done w₁ l =
       subst (λ (n : ℕ). Becomes w w₁ (push_event (state_of w) (padding_of (planned_slot p) (action_value p.action) n))) ed (event_pushed w w _ _ r here shows w₁ l)
 
@@ -117,25 +117,25 @@ module _ (w : List ℕ) (p : Planned) (due : ActionDue w p) (w₁ : List ℕ) (c
   still_free = record { shaped = c.shaped; free = omega (arith, due.room.free, ap (λ (s : State). length s.free) c.state, free_cleared (state_of w) (planned_slot p)) }
 
   pub send_done : p.action.kind.0 ≡ 1 → (w₂ : List ℕ)
-      → Becomes w₁ w₂ (push_event (state_of w₁) (padding_of (planned_slot p) (action_value p.action) (side (state_of w₁) (side_of p.client)).fixed.action_delay))
+      → Becomes w₁ w₂ (push_event (state_of w₁) (padding_of (planned_slot p) (action_value p.action) (side (state_of w₁) (side_of p.slot.client)).fixed.action_delay))
       → Becomes w w₂ (do_action (state_of w) (planned_slot p) (action_value p.action))
   send_done e w₂ l =
       becomes_then w w₁ w₂ _ _ c
       (subst (Becomes w₁ w₂)
-      (ap (λ (s : State). push_event s (padding_of (planned_slot p) (action_value p.action) (side s (side_of p.client)).fixed.action_delay)) c.state
+      (ap (λ (s : State). push_event s (padding_of (planned_slot p) (action_value p.action) (side s (side_of p.slot.client)).fixed.action_delay)) c.state
       ∙ padding_is (state_of w) (planned_slot p) (action_value p.action) ∙ kind_is (state_of w) (planned_slot p) (action_value p.action) SendPadding (ap action_kind_at e)) l)
 
   module _ (d : p.action.kind.0 ≡ 1 → ⊥) where
-    sums : (p.action.moment.0 + p.action.duration.0 ≤ moment_limit) × (p.action.moment.0 + ((side (state_of w) (side_of p.client)).fixed.action_delay + (side (state_of w) (side_of p.client)).fixed.reporting_delay) ≤ moment_limit)
+    sums : (p.action.moment.0 + p.action.duration.0 ≤ moment_limit) × (p.action.moment.0 + ((side (state_of w) (side_of p.slot.client)).fixed.action_delay + (side (state_of w) (side_of p.slot.client)).fixed.reporting_delay) ≤ moment_limit)
     sums =
-        block_sums (side (state_of w) (side_of p.client)) (action_value p.action)
-        (subst (λ (k : ActionKind). fits (action_sums k (side (state_of w) (side_of p.client)) (action_value p.action)) ≡ true) (other_kind p.action.kind.0 d) due.sums)
+        block_sums (side (state_of w) (side_of p.slot.client)) (action_value p.action)
+        (subst (λ (k : ActionKind). fits (action_sums k (side (state_of w) (side_of p.slot.client)) (action_value p.action)) ≡ true) (other_kind p.action.kind.0 d) due.sums)
 
-    same_action : (side (state_of w₁) (side_of p.client)).fixed.action_delay ≡ (side (state_of w) (side_of p.client)).fixed.action_delay
-    same_action = ap (λ (s : State). (side s (side_of p.client)).fixed.action_delay) c.state ∙ cleared_action (state_of w) (planned_slot p)
+    same_action : (side (state_of w₁) (side_of p.slot.client)).fixed.action_delay ≡ (side (state_of w) (side_of p.slot.client)).fixed.action_delay
+    same_action = ap (λ (s : State). (side s (side_of p.slot.client)).fixed.action_delay) c.state ∙ cleared_action (state_of w) (planned_slot p)
 
-    same_reporting : (side (state_of w₁) (side_of p.client)).fixed.reporting_delay ≡ (side (state_of w) (side_of p.client)).fixed.reporting_delay
-    same_reporting = ap (λ (s : State). (side s (side_of p.client)).fixed.reporting_delay) c.state ∙ cleared_reporting (state_of w) (planned_slot p)
+    same_reporting : (side (state_of w₁) (side_of p.slot.client)).fixed.reporting_delay ≡ (side (state_of w) (side_of p.slot.client)).fixed.reporting_delay
+    same_reporting = ap (λ (s : State). (side s (side_of p.slot.client)).fixed.reporting_delay) c.state ∙ cleared_reporting (state_of w) (planned_slot p)
 
     pub start_may : BeginDue w₁ p
     start_may = record { room = still_free; end = sums.0; begin = omega (arith, sums.1, same_action, same_reporting) }

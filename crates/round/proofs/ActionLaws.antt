@@ -32,22 +32,22 @@ use Rattle.round.proofs.FreeRecords.{event_may, event_pushed, free_side}
 -- ---- the events
 
 pub timer_shows : (d : Due)
-    → Shows (record { kind = record { 0 = 9 }; moment = d.moment; delay = record { 0 = 0 }; client = d.client; padding = false; bypass = false; replace = false; machine = d.machine }) (timer_event (due_slot d) d.moment.0)
+    → Shows (record { kind = record { 0 = 9 }; moment = d.moment; delay = record { 0 = 0 }; client = d.slot.client; padding = false; bypass = false; replace = false; machine = d.slot.machine }) (timer_event (due_slot d) d.moment.0)
 unfolding has_machine_no
-timer_shows d = record { is = refl; canonical = record { kind = omega arith; machine = d.known; none = λ e. absurd (true≢false e) } }
+timer_shows d = record { is = refl; canonical = record { kind = omega arith; machine = d.slot.known; none = λ e. absurd (true≢false e) } }
 
 pub padding_shows : (p : Planned) (delay : Length)
-    → Shows (record { kind = record { 0 = 2 }; moment = p.action.moment; delay = delay; client = p.client; padding = true; bypass = p.action.bypass; replace = p.action.replace; machine = p.machine }) (padding_of (planned_slot p) (action_value p.action) delay.0)
+    → Shows (record { kind = record { 0 = 2 }; moment = p.action.moment; delay = delay; client = p.slot.client; padding = true; bypass = p.action.bypass; replace = p.action.replace; machine = p.slot.machine }) (padding_of (planned_slot p) (action_value p.action) delay.0)
 unfolding has_machine_no
-padding_shows p delay = record { is = refl; canonical = record { kind = omega arith; machine = p.known; none = λ e. absurd (true≢false e) } }
+padding_shows p delay = record { is = refl; canonical = record { kind = omega arith; machine = p.slot.known; none = λ e. absurd (true≢false e) } }
 
 pub begin_shows : (p : Planned) (delay : Length) (flag : Bool) (m : Moment) → m.0 ≡ p.action.moment.0 + delay.0
-    → Shows (record { kind = record { 0 = 6 }; moment = m; delay = delay; client = p.client; padding = false; bypass = flag; replace = false; machine = p.machine }) (begin_of (planned_slot p) (action_value p.action) delay.0 flag)
+    → Shows (record { kind = record { 0 = 6 }; moment = m; delay = delay; client = p.slot.client; padding = false; bypass = flag; replace = false; machine = p.slot.machine }) (begin_of (planned_slot p) (action_value p.action) delay.0 flag)
 unfolding has_machine_no
 begin_shows p delay flag m e =
     record {
-      is = ap (λ (t : ℕ). event_value (record { kind = record { 0 = 6 }; moment = record { 0 = t }; delay = delay; client = p.client; padding = false; bypass = flag; replace = false; machine = p.machine })) e;
-      canonical = record { kind = omega arith; machine = p.known; none = λ e. absurd (true≢false e) };
+      is = ap (λ (t : ℕ). event_value (record { kind = record { 0 = 6 }; moment = record { 0 = t }; delay = delay; client = p.slot.client; padding = false; bypass = flag; replace = false; machine = p.slot.machine })) e;
+      canonical = record { kind = omega arith; machine = p.slot.known; none = λ e. absurd (true≢false e) };
     }
 
 -- ---- a timer
@@ -76,35 +76,35 @@ acted_fixed x a = go (sets_block x a)
     go true = refl
     go false = refl
 
-module _ (w : List ℕ) (p : Planned) (due : BeginDue w p) (w₁ : List ℕ) (c : Becomes w w₁ (begun (state_of w) (side_of p.client) (action_value p.action))) where
+module _ (w : List ℕ) (p : Planned) (due : BeginDue w p) (w₁ : List ℕ) (c : Becomes w w₁ (begun (state_of w) (side_of p.slot.client) (action_value p.action))) where
   abbrev side_after : SideState
-  side_after = acted_side BlockOutgoing (side (state_of w) (side_of p.client)) (action_value p.action)
+  side_after = acted_side BlockOutgoing (side (state_of w) (side_of p.slot.client)) (action_value p.action)
 
-  side_after_lem : side (state_of w₁) (side_of p.client) ≡ side_after
-  side_after_lem = ap (λ (s : State). side s (side_of p.client)) c.state ∙ side_with (state_of w) (side_of p.client) side_after
+  side_after_lem : side (state_of w₁) (side_of p.slot.client) ≡ side_after
+  side_after_lem = ap (λ (s : State). side s (side_of p.slot.client)) c.state ∙ side_with (state_of w) (side_of p.slot.client) side_after
 
-  action_same : (side (state_of w₁) (side_of p.client)).fixed.action_delay ≡ (side (state_of w) (side_of p.client)).fixed.action_delay
-  action_same = ap (λ (x : SideState). x.fixed.action_delay) side_after_lem ∙ ap (λ f. f.action_delay) (acted_fixed (side (state_of w) (side_of p.client)) (action_value p.action))
+  action_same : (side (state_of w₁) (side_of p.slot.client)).fixed.action_delay ≡ (side (state_of w) (side_of p.slot.client)).fixed.action_delay
+  action_same = ap (λ (x : SideState). x.fixed.action_delay) side_after_lem ∙ ap (λ f. f.action_delay) (acted_fixed (side (state_of w) (side_of p.slot.client)) (action_value p.action))
 
-  reporting_same : (side (state_of w₁) (side_of p.client)).fixed.reporting_delay ≡ (side (state_of w) (side_of p.client)).fixed.reporting_delay
-  reporting_same = ap (λ (x : SideState). x.fixed.reporting_delay) side_after_lem ∙ ap (λ f. f.reporting_delay) (acted_fixed (side (state_of w) (side_of p.client)) (action_value p.action))
+  reporting_same : (side (state_of w₁) (side_of p.slot.client)).fixed.reporting_delay ≡ (side (state_of w) (side_of p.slot.client)).fixed.reporting_delay
+  reporting_same = ap (λ (x : SideState). x.fixed.reporting_delay) side_after_lem ∙ ap (λ f. f.reporting_delay) (acted_fixed (side (state_of w) (side_of p.slot.client)) (action_value p.action))
 
   -- v holds the words in view
   module _ (v : Words) (eh : v.header.now ≡ take 256 w₁) (er : v.records.now ≡ drop 256 w₁) where
-    pub delays_fit : (side_in v p.client).fixed.action_delay + (side_in v p.client).fixed.reporting_delay < 2 ^ 64
+    pub delays_fit : (side_in v p.slot.client).fixed.action_delay + (side_in v p.slot.client).fixed.reporting_delay < 2 ^ 64
     delays_fit = rw (eh, er) (omega (arith, due.begin, action_same, reporting_same))
 
   module _
       (v : Words) (eh : v.header.now ≡ take 256 w₁) (er : v.records.now ≡ drop 256 w₁) (d : Length)
-      (seen : (rs : List ℕ) → d.0 ≡ (side_held v.header.now rs p.client).fixed.action_delay + (side_held v.header.now rs p.client).fixed.reporting_delay) where
-    ed : d.0 ≡ (side (state_of w₁) (side_of p.client)).fixed.action_delay + (side (state_of w₁) (side_of p.client)).fixed.reporting_delay
+      (seen : (rs : List ℕ) → d.0 ≡ (side_held v.header.now rs p.slot.client).fixed.action_delay + (side_held v.header.now rs p.slot.client).fixed.reporting_delay) where
+    ed : d.0 ≡ (side (state_of w₁) (side_of p.slot.client)).fixed.action_delay + (side (state_of w₁) (side_of p.slot.client)).fixed.reporting_delay
     ed = let e = rw eh at seen in e (drop 256 w₁)
 
     pub begin_fits : p.action.moment.0 + d.0 < 2 ^ 64
     begin_fits = omega (arith, due.begin, action_same, reporting_same, ed)
 
-    module _ (b : Bool) (flag : b ≡ (side_in v p.client).block_bypassable) (r : SimEvent) (shows : Shows r (begin_of (planned_slot p) (action_value p.action) d.0 b)) where
-      flag_is : b ≡ (side (state_of w₁) (side_of p.client)).block_bypassable
+    module _ (b : Bool) (flag : b ≡ (side_in v p.slot.client).block_bypassable) (r : SimEvent) (shows : Shows r (begin_of (planned_slot p) (action_value p.action) d.0 b)) where
+      flag_is : b ≡ (side (state_of w₁) (side_of p.slot.client)).block_bypassable
       flag_is = rw (eh, er) at flag
 
       event_is : begin_of (planned_slot p) (action_value p.action) d.0 b ≡ acted_event BlockOutgoing side_after (planned_slot p) (action_value p.action)
@@ -114,7 +114,7 @@ module _ (w : List ℕ) (p : Planned) (due : BeginDue w p) (w₁ : List ℕ) (c 
           ((flag_is ∙ ap (λ (x : SideState). x.block_bypassable) side_after_lem) i)
 
       pub begin_may : MayPush w₁ r
-      begin_may = event_may w w₁ _ _ r c shows (omega (arith, due.room.free, ap length (free_side (state_of w) (side_of p.client) side_after)))
+      begin_may = event_may w w₁ _ _ r c shows (omega (arith, due.room.free, ap length (free_side (state_of w) (side_of p.slot.client) side_after)))
 
       pub begin_done : (w₂ : List ℕ) → Leaves w₁ w₂ (push_event (state_of w₁) (event_value r)) → Becomes w w₂ (start_block (state_of w) (planned_slot p) (action_value p.action))
-      begin_done w₂ l = subst (λ e. Becomes w w₂ (push_event (begun (state_of w) (side_of p.client) (action_value p.action)) e)) event_is (event_pushed w w₁ _ _ r c shows w₂ l)
+      begin_done w₂ l = subst (λ e. Becomes w w₂ (push_event (begun (state_of w) (side_of p.slot.client) (action_value p.action)) e)) event_is (event_pushed w w₁ _ _ r c shows w₂ l)

@@ -1,5 +1,5 @@
 -- A block's end: the block cleared, its aggregates added, and `BlockingEnd` returned or queued. Assumes nothing.
-use Prim.Native.Nat.{ℕ, max, ◌+◌, ◌≤◌, ◌<◌, ◌^◌}
+use Prim.Native.Nat.{ℕ, ◌+◌, ◌≤◌, ◌<◌, ◌^◌}
 use mathlib.Core.Path.{◌≡◌, refl, sym, ap, subst, ◌∙◌}
 use mathlib.Core.Bool.{Bool, true, false}
 use mathlib.Core.List.{List, [], ◌∷◌}
@@ -12,7 +12,6 @@ use borrow.Author.Tests.{eq-eqb, ne_eqb}
 use Rattle.std.specs.Prelude.{if◌then◌else◌}
 use Rattle.rules.specs.Basics.{Side, client, server}
 use Rattle.rules.specs.State.{Aggregate, Event, SideState, State, one, side, with_block}
-use Rattle.rules.specs.Limits.{moment_limit}
 use Rattle.rules.specs.Queueing.{push_event}
 use Rattle.rules.specs.Aggregates.{aggregates_of, add_aggregate, add_aggregates}
 use Rattle.rules.specs.ChoiceDelays.{Block}
@@ -21,7 +20,6 @@ use Rattle.laws.specs.Accepted.{Accepted as HeldAccepted}
 use Rattle.laws.specs.Counts.{at_most_two}
 use Rattle.laws.specs.RecordsRound.{side_reserved_lem}
 use Rattle.laws.specs.RecordsTaken.{free_reserved}
-use Rattle.laws.specs.Sound.{EndOk, sound_side}
 use Rattle.event.specs.Answers.{chosen_as}
 use Rattle.event.specs.HandedIn.{side_of}
 use Rattle.event.specs.declared.SimEvent.{SimEvent}
@@ -31,7 +29,7 @@ use Rattle.layout.specs.Layout.{state_from, state_of}
 use Rattle.layout.specs.Shape.{Shaped}
 use Rattle.delay.specs.Tests.{delayed_of}
 use Rattle.queue.specs.Changes.{Leaves}
-use Rattle.queue.specs.Views.{side_in}
+use Rattle.queue.specs.Heads.{side_held}
 use Rattle.queue.specs.declared.view.Words.{Words}
 use Rattle.queue.specs.Pushes.{MayPush}
 use Rattle.event.specs.Values.{event_value}
@@ -63,9 +61,6 @@ unfolding add_aggregates
 add_side s [] z = refl
 add_side s (a ∷ l) z = add_side (add_aggregate s a) l z ∙ add_one_side s a z
 
-later_end : (now : ℕ) (k : Block) → max k.end now ≡ end_moment now k
-later_end now k = omega arith
-
 clear_fixed : (s : State) (now : ℕ) (k : Block) → (side (clear_block s now k) k.side).fixed.reporting_delay ≡ (side s k.side).fixed.reporting_delay
 unfolding clear_block
 clear_fixed s now k =
@@ -92,19 +87,10 @@ module _ (w : List ℕ) (now : ℕ) (k : BlockEnd) (by : Option Length) (due : B
       let o : one (side (state_of w) (side_of k.client)).block_end ≡ 1 = ap one due.set in
       omega (arith, side_reserved_lem (state_of w) (side_of k.client), free_reserved (state_of w) held)
 
-  end_limit : k.end.0 ≤ moment_limit
-  end_limit = subst EndOk due.set (sound_side held.sound (side_of k.client)).end
-
-  pub end_within : (end : ℕ) → end ≡ max k.end.0 now → now ≤ moment_limit → end ≤ moment_limit
-  end_within end ee l = omega (arith, end_limit)
-
-  module _ (end : Moment) (ee : end.0 ≡ max k.end.0 now) (w₁ : List ℕ) (c : Becomes w w₁ (unblocked (state_of w) (side_of k.client)))
+  module _ (end : Moment) (ee : end.0 ≡ end_moment now (block_from k)) (w₁ : List ℕ) (c : Becomes w w₁ (unblocked (state_of w) (side_of k.client)))
       (h rs : List ℕ) (eh : h ≡ take 256 w) (er : rs ≡ drop 256 w) (d : Length) (seen : d.0 ≡ (state_from h rs).settings.network_delay) where
     ed : d.0 ≡ (state_of w).settings.network_delay
     ed = rw (eh, er) at seen
-
-    end_is : end.0 ≡ end_moment now (block_from k)
-    end_is = ee ∙ later_end now (block_from k)
 
     pub delay_may : MayAggregate w₁ d.0 (side_of k.client) end.0 (delayed_of by)
     delay_may =
@@ -121,25 +107,25 @@ module _ (w : List ℕ) (now : ℕ) (k : BlockEnd) (by : Option Length) (due : B
         (subst (Becomes w₁ w₂)
         (λ i.
         add_aggregates (c.state i)
-        (aggregates_of (ed i) (side_of k.client) (end_is i) (due.reckoned i))) (leaves_becomes w₁ w₂ _ l))
+        (aggregates_of (ed i) (side_of k.client) (ee i) (due.reckoned i))) (leaves_becomes w₁ w₂ _ l))
 
   -- ---- `BlockingEnd`
 
   module _
-      (w₁ : List ℕ) (c : Becomes w w₁ (clear_block (state_of w) now (block_from k))) (v : Words) (eh : v.header.now ≡ take 256 w₁) (er : v.records.now ≡ drop 256 w₁) (d : Length)
-      (seen : d.0 ≡ (side_in v k.client).fixed.reporting_delay) (end : Moment) (ee : end.0 ≡ max k.end.0 now) where
+      (w₁ : List ℕ) (c : Becomes w w₁ (clear_block (state_of w) now (block_from k))) (v : Words) (eh : v.header.now ≡ take 256 w₁) (d : Length)
+      (seen : (rs : List ℕ) → d.0 ≡ (side_held v.header.now rs k.client).fixed.reporting_delay) (end : Moment) (ee : end.0 ≡ end_moment now (block_from k)) where
     told : d.0 ≡ (side (state_of w₁) (side_of k.client)).fixed.reporting_delay
-    told = rw (eh, er) at seen
+    told = let e = rw eh at seen in e (drop 256 w₁)
 
     reporting_is : d.0 ≡ (side (state_of w) (side_of k.client)).fixed.reporting_delay
     reporting_is = told ∙ ap (λ (s : State). (side s (side_of k.client)).fixed.reporting_delay) c.state ∙ clear_fixed (state_of w) now (block_from k)
 
     pub end_fits : end.0 + d.0 < 2 ^ 64
-    end_fits = omega (arith, due.sum, reporting_is, ee, later_end now (block_from k))
+    end_fits = omega (arith, due.sum, reporting_is, ee)
 
     module _ (r : SimEvent) (shows : Shows r (end_of (side_of k.client) end.0 d.0)) where
       shown : Shows r (end_event (state_of w) now (block_from k))
-      shown = subst (Shows r) (λ i. end_of (side_of k.client) ((ee ∙ later_end now (block_from k)) i) (reporting_is i)) shows
+      shown = subst (Shows r) (λ i. end_of (side_of k.client) (ee i) (reporting_is i)) shows
 
       by_delay_lem : (b : Bool) → eqb d.0 0 ≡ b
           → end_block (state_of w) now (block_from k) ≡ (if b then taken (end_event (state_of w) now (block_from k)) (clear_block (state_of w) now (block_from k)) else next (push_event (clear_block (state_of w) now (block_from k)) (end_event (state_of w) now (block_from k))))
@@ -147,15 +133,15 @@ module _ (w : List ℕ) (now : ℕ) (k : BlockEnd) (by : Option Length) (due : B
           ap (λ (t : Bool). if t then taken (end_event (state_of w) now (block_from k)) (clear_block (state_of w) now (block_from k)) else next (push_event (clear_block (state_of w) now (block_from k)) (end_event (state_of w) now (block_from k))))
           (ap (λ (n : ℕ). eqb n 0) (sym reporting_is) ∙ e)
 
-      pub end_returned : (rounds : ℕ) → d.0 ≡ 0 → Passed w w₁ rounds (end_block (state_of w) now (block_from k)) (Some (Ok (record { event = Some r; rounds = rounds + 1 })))
+      pub end_returned : (rounds : ℕ) → d.0 ≡ 0 → Passed w w₁ rounds (end_block (state_of w) now (block_from k)) (Ok (Some (record { event = Some r; rounds = rounds + 1 })))
       end_returned rounds e =
-          subst (λ (o : RoundOutcome). Passed w w₁ rounds o (Some (Ok (record { event = Some r; rounds = rounds + 1 })))) (sym (by_delay_lem true (eq-eqb d.0 0 e)))
+          subst (λ (o : RoundOutcome). Passed w w₁ rounds o (Ok (Some (record { event = Some r; rounds = rounds + 1 })))) (sym (by_delay_lem true (eq-eqb d.0 0 e)))
           (record { answer = ap (λ (x : MathOption Event). some (chosen_as x (rounds + 1))) (event_known r shown.canonical.kind ∙ ap some shown.is); words = c })
 
       pub end_may : MayPush w₁ r
       end_may = event_may w w₁ _ _ r c shown (omega (arith, three_free, clear_free (state_of w) now (block_from k)))
 
-      pub end_queued : (rounds : ℕ) → (d.0 ≡ 0 → ⊥) → (w₂ : List ℕ) → Leaves w₁ w₂ (push_event (state_of w₁) (event_value r)) → Passed w w₂ rounds (end_block (state_of w) now (block_from k)) None
+      pub end_queued : (rounds : ℕ) → (d.0 ≡ 0 → ⊥) → (w₂ : List ℕ) → Leaves w₁ w₂ (push_event (state_of w₁) (event_value r)) → Passed w w₂ rounds (end_block (state_of w) now (block_from k)) (Ok None)
       end_queued rounds n w₂ l =
-          subst (λ (o : RoundOutcome). Passed w w₂ rounds o None) (sym (by_delay_lem false (ne_eqb d.0 0 n)))
+          subst (λ (o : RoundOutcome). Passed w w₂ rounds o (Ok None)) (sym (by_delay_lem false (ne_eqb d.0 0 n)))
           (record { answer = refl; words = event_pushed w w₁ _ _ r c shown w₂ l })

@@ -2,7 +2,7 @@
 use Prim.Native.Nat.{ℕ, suc, ◌+◌, ◌<◌}
 use mathlib.Core.Path.{◌≡◌, refl, sym, ap, subst, ◌∙◌}
 use mathlib.Core.List.{List}
-use Rattle.std.specs.Prelude.{Option, Some, None, Result}
+use Rattle.std.specs.Prelude.{Option, Some, None, Result, Ok, Err, IsErr, IsErrAnd}
 use mathlib.Core.Option.{none, some, none-ne-some, some-injective}
 use native.Mathlib.Omega.{arith}
 use Rattle.rules.specs.State.{State, rounds_left, total}
@@ -12,21 +12,22 @@ use Rattle.laws.specs.Falls.{Kept, state_after}
 use Rattle.laws.proofs.Falls.{enough, round_kept}
 use Rattle.laws.specs.Runs.{Makes}
 use Rattle.laws.proofs.Runs.{round_makes}
-use Rattle.event.specs.Answers.{choice_of}
+use Rattle.event.specs.Answers.{choice_of, refused_by}
 use Rattle.event.specs.declared.answer.Chosen.{Chosen}
 use Rattle.event.specs.declared.answer.Refusal.{Refusal}
+use Rattle.layout.specs.Accepted.{Accepted}
 use Rattle.layout.specs.Layout.{state_of}
 use Rattle.round.specs.Cases.{said, pass_of}
-use Rattle.round.specs.Rounds.{MayChoose, Rounded, Choosing, Chose}
+use Rattle.round.specs.Rounds.{Rounded, Choosing, Chose}
 use Rattle.round.proofs.HeaderWords.{then_spare}
 
 -- ---- the beginning
 
-pub choice_begins : (w : List ℕ) (now : ℕ) → MayChoose w now → Choosing w w now 0
+pub choice_begins : (w : List ℕ) (now : ℕ) → Accepted w → Choosing w w now 0
 unfolding choose
-choice_begins w now may =
+choice_begins w now accepted =
     record {
-      may = record { accepted = may.accepted; time = may.time; finished = omega arith };
+      may = record { accepted = accepted; finished = omega arith };
       rest = λ f l. enough f (suc (rounds_left (state_of w))) now 0 (state_of w) l (omega arith);
       size = refl;
       spare = λ i s. refl;
@@ -54,9 +55,9 @@ ends k on (passed t) a e = ap (λ (x : Answer). record { answer = x; state = t }
 
 -- ---- a turn
 
-module _ (w₀ w left : List ℕ) (now k : ℕ) (p : Option (Result Chosen Refusal)) (inv : Choosing w₀ w now k) (r : Rounded w left now k p) where
+module _ (w₀ w left : List ℕ) (now k : ℕ) (p : Result (Option Chosen) Refusal) (inv : Choosing w₀ w now k) (r : Rounded w left now k p) where
   -- the answer of the choice
-  pub choice_ends : (c : Result Chosen Refusal) → p ≡ Some c → Chose w₀ left now c
+  choice_ends : (c : Result Chosen Refusal) → pass_of p ≡ some (choice_of c) → Chose w₀ left now c
   choice_ends c e =
       record {
         answer = sym (ap (λ (x : Called). x.answer) called);
@@ -69,9 +70,17 @@ module _ (w₀ w left : List ℕ) (now k : ℕ) (p : Option (Result Chosen Refus
       called : choose (state_of w₀) now ≡ record { answer = choice_of c; state = state_after (round (state_of w) now) }
       called =
           sym (inv.rest (suc (rounds_left (state_of w))) (omega arith)) ∙ one_round (rounds_left (state_of w)) now k (state_of w) (round (state_of w) now) refl
-          ∙ ends k _ (round (state_of w) now) (choice_of c) (sym (ap pass_of e) ∙ r.came.answer)
+          ∙ ends k _ (round (state_of w) now) (choice_of c) (sym e ∙ r.came.answer)
 
-  module _ (e : p ≡ None) where
+  pub choice_found : (c : Chosen) → p ≡ Ok (Some c) → Chose w₀ left now (Ok c)
+  choice_found c e = choice_ends (Ok c) (ap pass_of e)
+
+  -- as `?` hands it on
+  pub choice_stops : (x : Refusal) → p ≡ Err x → (c : Result Chosen Refusal) → IsErr c × IsErrAnd c (λ y. y ≡ x) → Chose w₀ left now c
+  choice_stops x e (Ok c) h = absurd h.1
+  choice_stops x e (Err y) h = choice_ends (Err y) (ap pass_of e ∙ ap (λ z. some (refused_by z)) (sym h.1))
+
+  module _ (e : p ≡ Ok None) where
     on : round (state_of w) now ≡ next (state_after (round (state_of w) now))
     on = goes_on k (round (state_of w) now) (sym (ap pass_of e) ∙ r.came.answer)
 
@@ -88,7 +97,7 @@ module _ (w₀ w left : List ℕ) (now k : ℕ) (p : Option (Result Chosen Refus
     pub turn_goes : Choosing w₀ left now (k + 1)
     turn_goes =
         record {
-          may = record { accepted = r.accepted; time = inv.may.time; finished = omega (arith, turn_made, inv.may.finished) };
+          may = record { accepted = r.accepted; finished = omega (arith, turn_made, inv.may.finished) };
           rest = λ f l.
               enough f (rounds_left (state_of w)) now (k + 1) (state_of left) l turn_falls
               ∙ sym (one_round (rounds_left (state_of w)) now k (state_of w) (next (state_of left)) left_on) ∙ inv.rest (suc (rounds_left (state_of w))) (omega arith);

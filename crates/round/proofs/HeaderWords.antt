@@ -17,7 +17,7 @@ use Rattle.layout.specs.Layout.{bank, less_one, state_from, state_of, action_fro
 use Rattle.layout.specs.Header.{ActionShape}
 use Rattle.layout.specs.Shape.{Shaped}
 use Rattle.layout.specs.Spare.{Spare}
-use Rattle.layout.specs.Changes.{side_no, put_action}
+use Rattle.layout.specs.Changes.{side_no, put_timer, put_action}
 use Rattle.layout.proofs.Banks.{bank_at}
 use Rattle.layout.proofs.Stores.{sum_shaped, sum_stored, block_shaped, block_stored, flag_shaped, flag_stored, ended_shaped, ended_stored, rounds_shaped, rounds_stored, timer_shaped, timer_stored}
 use Rattle.layout.proofs.ActionStores.{action_shaped, action_stored}
@@ -138,10 +138,10 @@ module _ (w : List ℕ) (s : Shaped w) (z : Side) where
           ∙ ap (λ (t : State). with_side t z (with_block (side t z) (side t z).block_end (flag v))) one.state
           ∙ twice (state_of w) z end (flag v) ∙ ap (blocked_to (state_of w) z end) (ap flag g ∙ bit_flagged b)
 
-  pub timer_cleared_lem : (j m : ℕ) → m < 16 → j ≡ 16 * side_no z + m → Becomes w (set w (64 + j) 0) (timer_cleared (state_of w) (slot_at z m))
+  pub timer_cleared_lem : (left : List ℕ) (m : ℕ) → m < 16 → left ≡ put_timer (16 * side_no z + m) 0 w → Becomes w left (timer_cleared (state_of w) (slot_at z m))
   unfolding timer_cleared
-  timer_cleared_lem j m l e =
-      subst (λ (i : ℕ). Becomes w (set w (64 + i) 0) (timer_cleared (state_of w) (slot_at z m))) (sym e)
+  timer_cleared_lem left m l e =
+      subst (λ (v : List ℕ). Becomes w v (timer_cleared (state_of w) (slot_at z m))) (sym e)
       (record {
         shaped = timer_shaped w s 0 z m l;
         state = timer_stored w s 0 z m l;
@@ -149,10 +149,10 @@ module _ (w : List ℕ) (s : Shaped w) (z : Side) where
         spare = spare_set w (64 + (16 * side_no z + m)) 0 (λ i. slot_spare (64 + (16 * side_no z + m)) i (omega arith) (omega (arith, side_low z)));
       })
 
-  pub action_cleared_lem : (j m : ℕ) → m < 16 → j ≡ 16 * side_no z + m → Becomes w (put_action j 0 0 0 w) (action_cleared (state_of w) (slot_at z m))
+  pub action_cleared_lem : (left : List ℕ) (m : ℕ) → m < 16 → left ≡ put_action (16 * side_no z + m) 0 0 0 w → Becomes w left (action_cleared (state_of w) (slot_at z m))
   unfolding action_cleared action_from
-  action_cleared_lem j m l e =
-      subst (λ (i : ℕ). Becomes w (put_action i 0 0 0 w) (action_cleared (state_of w) (slot_at z m))) (sym e)
+  action_cleared_lem left m l e =
+      subst (λ (v : List ℕ). Becomes w v (action_cleared (state_of w) (slot_at z m))) (sym e)
       (record {
         shaped = action_shaped w s 0 0 0 z m l empty_shape;
         state = action_stored w s 0 0 0 z m l;

@@ -125,19 +125,19 @@ said_closed k (passed t) = refl
 
 -- ---- the code's round
 
-module _ (w : List ℕ) (now k : ℕ) (may : MayRound w now k) where
+module _ (w : List ℕ) (now k : ℕ) (time : now ≤ moment_limit) (may : MayRound w k) where
   -- words that hold the rules' state after it are accepted
-  pub rounded : (left : List ℕ) (r : Option (Result Chosen Refusal)) (o : RoundOutcome) → round (state_of w) now ≡ o → Passed w left k o r → Rounded w left now k r
+  pub rounded : (left : List ℕ) (r : Result (Option Chosen) Refusal) (o : RoundOutcome) → round (state_of w) now ≡ o → Passed w left k o r → Rounded w left now k r
   rounded left r o e p =
       let q : Passed w left k (round (state_of w) now) r = subst⁻¹ (λ (x : RoundOutcome). Passed w left k x r) e p in
-      record { came = q; accepted = shaped_accepted left q.words.shaped (subst⁻¹ HeldAccepted q.words.state (round_accepted (state_of w) now (holds_accepted w may.accepted) may.time)) }
+      record { came = q; accepted = shaped_accepted left q.words.shaped (subst⁻¹ HeldAccepted q.words.state (round_accepted (state_of w) now (holds_accepted w may.accepted) time)) }
 
   -- v holds the words in view
   module _ (v : Words) (eh : v.header.now ≡ take 256 w) (er : v.records.now ≡ drop 256 w) (b : Bool) (seen : b ≡ fits (always_sums (state_in v))) where
     eb : b ≡ fits (always_sums (state_of w))
     eb = rw (eh, er) at seen
 
-    pub always_stops : not b ≡ true → (left : List ℕ) (r : Option (Result Chosen Refusal)) → Marked w left k r → Rounded w left now k r
+    pub always_stops : not b ≡ true → (left : List ℕ) (r : Result (Option Chosen) Refusal) → Marked w left k r → Rounded w left now k r
     always_stops f left r m = rounded left r _ (always_pass (state_of w) now (sym eb ∙ not-true b f)) m
 
     module _ (t : not b ≡ false) where
@@ -155,7 +155,7 @@ module _ (w : List ℕ) (now k : ℕ) (may : MayRound w now k) where
         took : TakenUp (take 256 w) (drop 256 w) now n (candidate (state_of w) now)
         took = rw (eh, er) at taken_up
 
-        pub none_found : n ≡ None → (left : List ℕ) → Becomes w left (counted (state_of w)) → Rounded w left now k (Some (Ok (record { event = None; rounds = k + 1 })))
+        pub none_found : n ≡ None → (left : List ℕ) → Becomes w left (counted (state_of w)) → Rounded w left now k (Ok (Some (record { event = None; rounds = k + 1 })))
         unfolding next_of
         none_found e left c =
             rounded left _ _ (both_fit (state_of w) now always (ap (λ (x : RulesCandidate). fits (candidate_sums (state_of w) now x)) is_none ∙ no_sums) ∙ ap (λ (x : RulesCandidate). closed (act (state_of w) now x)) is_none) (record { answer = refl; words = c })
@@ -188,7 +188,7 @@ module _ (w : List ℕ) (now k : ℕ) (may : MayRound w now k) where
             case_sums : f ≡ fits (candidate_sums (state_of w) now (candidate (state_of w) now))
             case_sums = ef ∙ ap (λ (x : RulesCandidate). fits (candidate_sums (state_of w) now x)) found_is
 
-            pub candidate_stops : not f ≡ true → (left : List ℕ) (r : Option (Result Chosen Refusal)) → Marked w left k r → Rounded w left now k r
+            pub candidate_stops : not f ≡ true → (left : List ℕ) (r : Result (Option Chosen) Refusal) → Marked w left k r → Rounded w left now k r
             candidate_stops g left r m = rounded left r _ (candidate_pass (state_of w) now (sym case_sums ∙ not-true f g)) m
 
             module _ (ng : not f ≡ false) where
@@ -198,16 +198,16 @@ module _ (w : List ℕ) (now k : ℕ) (may : MayRound w now k) where
               pub act_may : MayAct w now k c
               act_may = record { round = may; is = found_is; stands = found_stands; reckoned = found_reckoned; sums = sym ef ∙ g }
 
-              module _ (w₁ : List ℕ) (p : Option (Result Chosen Refusal)) (a : Passed w w₁ k (act (state_of w) now (candidate_of (take 256 w) c)) p) where
+              module _ (w₁ : List ℕ) (p : Option Chosen) (a : Passed w w₁ k (act (state_of w) now (candidate_of (take 256 w) c)) (Ok p)) where
                 same_total : total (state_of w₁) ≡ total (state_of w)
                 same_total = ap (λ (s : State). total s) a.words.state ∙ (act_steady (state_of w) now (candidate_of (take 256 w) c)).rounds
 
                 pub acted_counts : total (state_of w₁) + 1 < 2 ^ 64
                 acted_counts = omega (arith, same_total, count_fits)
 
-                pub acted : (w₂ : List ℕ) → Becomes w₁ w₂ (counted (state_of w₁)) → Rounded w w₂ now k p
+                pub acted : (w₂ : List ℕ) → Becomes w₁ w₂ (counted (state_of w₁)) → Rounded w w₂ now k (Ok p)
                 acted w₂ c₂ =
-                    rounded w₂ p (closed (act (state_of w) now (candidate_of (take 256 w) c)))
+                    rounded w₂ (Ok p) (closed (act (state_of w) now (candidate_of (take 256 w) c)))
                     (both_fit (state_of w) now always (sym case_sums ∙ g) ∙ ap (λ (x : RulesCandidate). closed (act (state_of w) now x)) (sym found_is))
                     (record {
                       answer = a.answer ∙ said_closed k (act (state_of w) now (candidate_of (take 256 w) c));

@@ -1,5 +1,5 @@
 -- What each case of a round asks, and what it answers. Assumes nothing.
-use Rattle.std.specs.Prelude.{ℕ, ◌+◌, ◌≤◌, ◌≡◌, Bool, true, false, Option, Some, None, Result, take, drop}
+use Rattle.std.specs.Prelude.{ℕ, ◌+◌, ◌≤◌, ◌≡◌, Bool, true, false, Option, Some, None, Result, Ok, Err, take, drop}
 use mathlib.Core.List.{List, head?}
 use Rattle.std.proofs.Math.Option.{Option as MathOption, none, some}
 use Rattle.moment.specs.declared.Length.{Length}
@@ -11,7 +11,7 @@ use Rattle.rules.specs.Queueing.{push_event}
 use Rattle.rules.specs.Choice.{Answer, event, nothing_left, refused}
 use Rattle.laws.specs.Falls.{state_after}
 use Rattle.event.specs.HandedIn.{side_of, aggregate_in}
-use Rattle.event.specs.Answers.{choice_of}
+use Rattle.event.specs.Answers.{found_as, refused_by}
 use Rattle.event.specs.Values.{event_value, known_event}
 use Rattle.event.specs.declared.SimEvent.{SimEvent}
 use Rattle.event.specs.declared.answer.Chosen.{Chosen}
@@ -78,13 +78,13 @@ pub record EventTaken (w left : List ℕ) (now : ℕ) (h : Head) (r : SimEvent) 
 -- a free record, and the action's sums within the limit
 pub record ActionDue (w : List ℕ) (p : Planned) : Type 0 where
   pub room : HasFree w 1
-  pub sums : fits (action_sums (action_value p.action).kind (side (state_of w) (side_of p.client)) (action_value p.action)) ≡ true
+  pub sums : fits (action_sums (action_value p.action).kind (side (state_of w) (side_of p.slot.client)) (action_value p.action)) ≡ true
 
 -- the same of a `BlockOutgoing` whose slot is cleared
 pub record BeginDue (w : List ℕ) (p : Planned) : Type 0 where
   pub room : HasFree w 1
   pub end : p.action.moment.0 + p.action.duration.0 ≤ moment_limit
-  pub begin : p.action.moment.0 + ((side (state_of w) (side_of p.client)).fixed.action_delay + (side (state_of w) (side_of p.client)).fixed.reporting_delay) ≤ moment_limit
+  pub begin : p.action.moment.0 + ((side (state_of w) (side_of p.slot.client)).fixed.action_delay + (side (state_of w) (side_of p.slot.client)).fixed.reporting_delay) ≤ moment_limit
 
 -- the side after the block began, or not
 abbrev pub begun : State → Side → Action → State
@@ -104,9 +104,10 @@ pub record BlockDue (w : List ℕ) (now : ℕ) (k : BlockEnd) (by : Option Lengt
 -- ---- a round's answer
 
 -- another round, or the answer of the choice
-abbrev pub pass_of : Option (Result Chosen Refusal) → MathOption Answer
-pass_of None = none
-pass_of (Some c) = some (choice_of c)
+abbrev pub pass_of : Result (Option Chosen) Refusal → MathOption Answer
+pass_of (Ok None) = none
+pass_of (Ok (Some c)) = some (found_as c.event c.rounds)
+pass_of (Err r) = some (refused_by r)
 
 -- what the rules answer after a round, k being finished before it
 abbrev pub said : ℕ → RoundOutcome → MathOption Answer
@@ -116,10 +117,10 @@ said k (nothing s) = some (nothing_left (k + 1))
 said k (passed s) = some (refused 10 k)
 
 -- the round came to o: its answer, and the words that it leaves
-pub record Passed (w left : List ℕ) (k : ℕ) (o : RoundOutcome) (r : Option (Result Chosen Refusal)) : Type 0 where
+pub record Passed (w left : List ℕ) (k : ℕ) (o : RoundOutcome) (r : Result (Option Chosen) Refusal) : Type 0 where
   pub answer : pass_of r ≡ said k o
   pub words : Becomes w left (state_after o)
 
 -- a sum passed the limit
-abbrev pub Marked : List ℕ → List ℕ → ℕ → Option (Result Chosen Refusal) → Type 0
+abbrev pub Marked : List ℕ → List ℕ → ℕ → Result (Option Chosen) Refusal → Type 0
 Marked w left k r = Passed w left k (passed (with_ended (state_of w) true)) r

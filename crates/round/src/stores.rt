@@ -1,4 +1,4 @@
-// The words of the header that a round writes and reads.
+// The words of the header that a round writes.
 // Between two stores of a call the words are `Shaped` and not yet `Accepted`, so no type of the block could hold either throughout.
 ghost use Rattle.std.specs.Prelude.{◌≡◌, true, ◌+◌, ◌^◌, ◌<◌};
 ghost use Rattle.rules.specs.State.{side, with_ended, total};
@@ -8,12 +8,11 @@ ghost use Rattle.layout.specs.Layout.{state_of};
 ghost use Rattle.layout.specs.Shape.{Shaped};
 ghost use Rattle.round.specs.Changes.{Becomes, raised_by, unblocked, blocked_to, bit_of};
 ghost use Rattle.layout.specs.Changes.{side_no};
-ghost use Rattle.queue.specs.Views.{side_in};
-ghost use Rattle.candidate.specs.Candidates.{due_slot, planned_slot};
+ghost use Rattle.candidate.specs.Candidates.{slot_from};
 
-use candidate::{Due, Planned};
 use moment::{Length, Moment};
-use queue::{Words, header};
+use queue::header::Slot;
+use queue::{header, records};
 
 // A length is added to a side's sum.
 pub fn raise_sum(block: &mut [u64], client: bool, length: Length)
@@ -48,22 +47,18 @@ pub fn set_block(block: &mut [u64], client: bool, end: Moment, bypass: bool)
 }
 
 // A timer, and an action, is cleared.
-pub fn clear_timer(block: &mut [u64], d: Due)
+pub fn clear_timer(block: &mut [u64], slot: Slot)
     requires { Shaped block.old }
-    ensures { Becomes block.old block.new (timer_cleared (state_of block.old) (due_slot d)) }
+    ensures { Becomes block.old block.new (timer_cleared (state_of block.old) (slot_from slot)) }
 {
-    let at = header::TIMERS + header::slot(d.client, d.machine);
-    block[at] = 0;
+    records::clear_timer(block, slot);
 }
 
-pub fn clear_action(block: &mut [u64], p: Planned)
+pub fn clear_action(block: &mut [u64], slot: Slot)
     requires { Shaped block.old }
-    ensures { Becomes block.old block.new (action_cleared (state_of block.old) (planned_slot p)) }
+    ensures { Becomes block.old block.new (action_cleared (state_of block.old) (slot_from slot)) }
 {
-    let j = header::slot(p.client, p.machine);
-    block[96 + 3 * j] = 0;
-    block[97 + 3 * j] = 0;
-    block[98 + 3 * j] = 0;
+    records::clear_action(block, slot);
 }
 
 // Number 10 marks the state ended.
@@ -71,7 +66,7 @@ pub fn mark_ended(block: &mut [u64])
     requires { Shaped block.old }
     ensures { Becomes block.old block.new (with_ended (state_of block.old) true) }
 {
-    block[16] = 1;
+    block[header::ENDED] = 1;
 }
 
 // One round more.
@@ -80,20 +75,5 @@ pub fn count_round(block: &mut [u64])
     requires total_small { total (state_of block.old) + 1 < 2 ^ 64 }
     ensures { Becomes block.old block.new (counted (state_of block.old)) }
 {
-    block[17] = block[17] + 1;
-}
-
-// A side's reporting delay, and its action delay.
-#[tactic(auto, using(candidate::proofs::SumLaws::reporting_held))]
-pub fn reporting_delay(words: &Words, client: bool) -> Length
-    ensures { result.0 ≡ (side_in words.now client).fixed.reporting_delay }
-{
-    Length(words.of_side(header::REPORTING_DELAY, client))
-}
-
-#[tactic(auto, using(candidate::proofs::SumLaws::action_held))]
-pub fn action_delay(words: &Words, client: bool) -> Length
-    ensures { result.0 ≡ (side_in words.now client).fixed.action_delay }
-{
-    Length(words.of_side(header::ACTION_DELAY, client))
+    block[header::ROUNDS] = block[header::ROUNDS] + 1;
 }

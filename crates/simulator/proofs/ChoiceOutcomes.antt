@@ -1,21 +1,16 @@
 -- The promise of a choice, from its number and from what its rounds leave. Assumes nothing.
-use Prim.Native.Nat.{ℕ, ◌≤◌}
+use Prim.Native.Nat.{ℕ}
 use mathlib.Core.Path.{◌≡◌, ap}
 use mathlib.Core.List.{List}
 use mathlib.Core.Option.{none}
 use native.Mathlib.Omega.{arith}
 use Rattle.std.specs.Prelude.{Result}
-use borrow.Author.Tests.{ltb-false}
-use Rattle.rules.specs.Limits.{moment_limit}
 use Rattle.rules.specs.Arguments.{Call, EventIn, push, set_action, clear_action, set_timer, clear_timer, pick_next, sim_network_stack}
 use Rattle.rules.specs.Calls.{work}
-use Rattle.rules.specs.Refusals.{refusal, table}
-use Rattle.laws.specs.CallRuns.{none_met}
 use Rattle.event.specs.Answers.{choice_of}
 use Rattle.event.specs.declared.answer.Chosen.{Chosen}
 use Rattle.event.specs.declared.answer.Refusal.{Refusal}
-use Rattle.layout.specs.Layout.{state_of}
-use Rattle.round.specs.Rounds.{MayChoose, Chose}
+use Rattle.round.specs.Rounds.{Chose}
 use Rattle.simulator.specs.Outcome.{Outcome}
 use Rattle.simulator.specs.Numbers.{Numbered}
 use Rattle.simulator.proofs.Frees.{free_records}
@@ -36,13 +31,6 @@ unfolding is_step
 no_step t now r e = let z : ◌≡◌ {A = ℕ} 0 1 = ap is_step e in omega arith
 
 module _ (w : List ℕ) (now : ℕ) (num : Numbered w (pick_next now) none) where
-  in_time : now ≤ moment_limit
-  unfolding table refusal
-  in_time = ltb-false moment_limit now (none_met (table (state_of w) (pick_next now)) (passed_none w (pick_next now) num)).1.0
-
-  pub choice_may : MayChoose w now
-  choice_may = record { accepted = passed_accepted w (pick_next now) num; time = in_time }
-
   pub choice_outcome : (a : Result Chosen Refusal) (left : List ℕ) → Chose w left now a → Outcome w (pick_next now) (choice_of a) left
   unfolding work
   choice_outcome a left k =

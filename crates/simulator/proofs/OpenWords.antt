@@ -1,14 +1,14 @@
 -- The words that opening writes: the settings over cleared words, the free records chained upward. Assumes nothing.
 use Prim.Native.Nat.{ℕ, zero, suc, ◌+◌, ◌-◌, ◌*◌, ◌/◌, ◌%◌, ◌≤◌, ◌<◌}
 use mathlib.Core.Path.{◌≡◌, refl, sym, ap, ◌∙◌}
-use mathlib.Core.Bool.{Bool, true, false}
+use mathlib.Core.Bool.{Bool}
 use mathlib.Core.List.{List, [], ◌∷◌, ◌++◌}
 use native.Mathlib.Omega.{arith}
 use native.Mathlib.Decide.{ℕ_discrete}
-use lib.Dec.{eqb, ltb}
+use lib.Dec.{eqb}
 use lib.ListN.{length, get_or, set, take, drop, replicate, length-replicate, length-set, length-drop, get_or-append}
 use lib.Seq.{get_or-set_same, get_or-set_other, get_or-drop, get_or-take, get_or-append-add, length-take-le}
-use borrow.Author.Tests.{ltb-true, lt-ltb, eq-eqb, ne_eqb}
+use borrow.Author.Tests.{lt-ltb, eq-eqb, ne_eqb}
 use borrow.Rule.Slice.PartMut.{put_mid, same_len_mid}
 use Rattle.std.specs.Prelude.{if◌then◌else◌}
 use Rattle.rules.specs.Opening.{Opening, records_in}
@@ -21,14 +21,6 @@ use Rattle.simulator.specs.OpeningParts.{AllZero, Chained, put_head, put_setting
 use Rattle.simulator.proofs.Reading.{same_ltb}
 
 -- ---- the free chain
-
-word_none : (k : ℕ) → record_word 1 k ≡ 0
-word_none k = go (eqb (k % 4) 0) (ltb (k / 4 + 1) 1) refl
-  where
-    go : (a b : Bool) → ltb (k / 4 + 1) 1 ≡ b → (if a then if b then k / 4 + 2 else 0 else 0) ≡ 0
-    go true true e = absurd (omega (arith, ltb-true (k / 4 + 1) 1 e))
-    go true false e = refl
-    go false b e = refl
 
 word_more : (r k : ℕ) → (k ≡ 4 * r - 4 + 0 → ⊥) → record_word r k ≡ record_word (r + 1) k
 word_more r k d = go (ℕ_discrete (k % 4) 0)

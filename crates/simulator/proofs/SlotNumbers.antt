@@ -40,6 +40,10 @@ module _ (h : List ℕ) (c : Bool) (machine m : ℕ) (em : m ≡ get_or h (8 + s
 pub slot_has : (h rs : List ℕ) (c : Bool) (machine : ℕ) → no_machine (state_from h rs) (slot_in c machine) ≡ false → machine < get_or h (8 + side_no (side_of c)) 0
 slot_has h rs c machine e = leb-false (get_or h (8 + side_no (side_of c)) 0) machine (sym (ap (λ x. leb x machine) (machines_are h rs c)) ∙ e)
 
+-- the number of a slot that is known is that of the one handed in
+pub number_is : (n m j : ℕ) → (j ≡ n) × (j < 32) → (n ≡ m) × (n < 32) → (j ≡ m) × (j < 32)
+number_is n m j a b = (a.0 ∙ b.0, a.1)
+
 module _ (h : List ℕ) (c : Bool) (machine : ℕ) (go : get_or h 16 0 ≡ 0) where
   -- ---- setting: 5
 

@@ -50,7 +50,7 @@ step_free w now r (inr (inr (acc, e))) =
 no_delay : (r : EventIn) → delay_above_moment r ≡ false → r.kind ≡ 0 → r.padding ≡ false → r.delay ≤ r.moment
 no_delay r e k p = ltb-false r.moment r.delay ((λ d. sym (eq-eqb r.kind 0 k) d && not (sym p d) && ltb r.moment r.delay) ∙ e)
 
-pub step_may : (w : List ℕ) (now : ℕ) (e : SimEvent) → UpToEight w now (event_in e) none → MayStep w e now
+pub step_may : (w : List ℕ) (now : ℕ) (e : SimEvent) → UpToEight w now (event_in e) none → MayStep w e
 step_may w now e u =
     let f = step_free w now (event_in e) u in
     let all = all_false (step_rows (state_of w) now (event_in e)) f.none_holds in
@@ -62,7 +62,6 @@ step_may w now e u =
           record {
             moment = ltb-false moment_limit e.moment.0 large.0;
             delay = ltb-false delay_limit e.delay.0 large.1;
-            time = ltb-false moment_limit now seven.0;
             back = no_delay (event_in e) all.1.1.1.0;
           };
     }

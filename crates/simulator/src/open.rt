@@ -35,10 +35,7 @@ pub struct Opening {
 fn rate_fits(r: Option<u64>) -> bool
     ensures { result ≡ not (rate_outside (rate_of r)) }
 {
-    match r {
-        None => true,
-        Some(p) => p != 0 && p <= 4_294_967_295,
-    }
+    r.is_none_or(|p| (1..=4_294_967_295).contains(&p))
 }
 
 fn side_fits(s: SideOpening) -> bool

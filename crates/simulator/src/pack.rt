@@ -8,10 +8,7 @@ use event::answer::{Answer, Reason};
 pub fn pack(block: &[u64], second: &mut [u64]) -> Answer
     ensures { Packs block.now second.old (answer_of result) second.new }
 {
-    if !accept::size_ok(block.len()) {
-        return Err(Reason::WrongLength.into());
-    }
-    if second.len() != block.len() {
+    if !accept::size_ok(block.len()) || second.len() != block.len() {
         return Err(Reason::WrongLength.into());
     }
     if !accept::accepted(block) {

@@ -7,7 +7,9 @@ ghost use Rattle.rules.specs.Arguments.{Call, set_action, set_timer, clear_actio
 ghost use Rattle.event.specs.HandedIn.{action_in};
 ghost use Rattle.layout.specs.Accepted.{Accepted};
 ghost use Rattle.queue_event.specs.Tag.{bit as bit_of};
-ghost use Rattle.layout.specs.Changes.{put_action};
+ghost use Rattle.layout.specs.Changes.{side_no, put_action};
+ghost use Rattle.event.specs.HandedIn.{side_of};
+ghost use Rattle.queue.specs.Slots.{slot_no};
 ghost use Rattle.simulator.specs.Numbers.{refused_with, slot_in, no_room, kept_no, SlotNumber, CallNumber, Numbered};
 ghost use Rattle.event.specs.Answers.{answer_of};
 ghost use Rattle.simulator.specs.Outcome.{Outcome};
@@ -17,13 +19,27 @@ use crate::admit;
 use event::answer::{Answer, Reason};
 use event::{ActionKind, ScheduledAction};
 use moment::{Length, Moment};
-use queue::{View, header};
+use queue::{View, header, records};
 
 // A machine's place for a timer and an action.
 #[derive(Clone, Copy)]
 pub struct Slot {
     pub client: bool,
     pub machine: u64,
+}
+
+impl Slot {
+    // The slot of a machine that its side has, which is one of sixteen.
+    #[tactic(auto, using(crate::proofs::SlotOutcomes::slot_below))]
+    fn known(self) -> header::Slot
+        requires { self.machine < 16 }
+        ensures { (slot_no result ≡ 16 * side_no (side_of self.client) + self.machine) × (slot_no result < 32) }
+    {
+        header::Slot {
+            client: self.client,
+            machine: self.machine,
+        }
+    }
 }
 
 // A timer, by its moment.
@@ -74,7 +90,7 @@ fn no_room(view: &View, word: u64, size: u64) -> bool
     ensures { result ≡ no_room view.now.words.header.now word size }
 {
     word == 0
-        && view.words.entry(admit::FREE).count < accept::header::reserved(view.words.header) + size
+        && view.words.entry(header::FREE).count < accept::header::reserved(view.words.header) + size
 }
 
 // ---- a timer
@@ -91,7 +107,7 @@ impl Held for Timer {
         if !self.0.fits() {
             return Err(Reason::AboveLimit);
         }
-        let j = header::slot(slot.client, slot.machine);
+        let j = slot.known().number();
         if no_room(view, view.words.header[header::TIMERS + j], 1) {
             return Err(Reason::NoRoom);
         }
@@ -99,13 +115,12 @@ impl Held for Timer {
     }
 
     fn put(self, block: &mut [u64], slot: Slot) {
-        let j = header::slot(slot.client, slot.machine);
+        let j = slot.known().number();
         block[header::TIMERS + j] = self.0.stored();
     }
 
     fn empty(block: &mut [u64], slot: Slot) {
-        let j = header::slot(slot.client, slot.machine);
-        block[header::TIMERS + j] = 0;
+        records::clear_timer(block, slot.known());
     }
 }
 
@@ -153,14 +168,10 @@ impl Held for ScheduledAction {
         if !self.kind.known() {
             return Err(Reason::NoKind);
         }
-        if !self.moment.fits() {
+        if !self.moment.fits() || !kept_duration(self).fits() {
             return Err(Reason::AboveLimit);
         }
-        let kept = kept_duration(self);
-        if !kept.fits() {
-            return Err(Reason::AboveLimit);
-        }
-        let j = header::slot(slot.client, slot.machine);
+        let j = slot.known().number();
         if no_room(view, view.words.header[header::ACTIONS + 3 * j], 4) {
             return Err(Reason::NoRoom);
         }
@@ -168,15 +179,14 @@ impl Held for ScheduledAction {
     }
 
     fn put(self, block: &mut [u64], slot: Slot) {
-        let j = header::slot(slot.client, slot.machine);
+        let j = slot.known().number();
         let word = action_word(self);
         let kept = kept_duration(self);
         store_action(block, j, word, self.moment, kept);
     }
 
     fn empty(block: &mut [u64], slot: Slot) {
-        let j = header::slot(slot.client, slot.machine);
-        store_action(block, j, 0, Moment(0), Length(0));
+        records::clear_action(block, slot.known());
     }
 }
 
@@ -186,16 +196,16 @@ fn admit_set<H: Held>(block: &[u64], slot: Slot, held: H) -> Result<(), Reason>
     requires { Accepted block.now }
     ensures { Numbered block.now (H.setting (slot_in slot.client slot.machine) held) (refused_with result) }
 {
-    admit::going(block)?;
-    held.admit(&View::of(block), slot)
+    let view = admit::going(block)?;
+    held.admit(&view, slot)
 }
 
 fn admit_clear<H: Held>(block: &[u64], slot: Slot) -> Result<(), Reason>
     requires { Accepted block.now }
     ensures { Numbered block.now (H.clearing (slot_in slot.client slot.machine)) (refused_with result) }
 {
-    admit::going(block)?;
-    check_slot(&View::of(block), slot)
+    let view = admit::going(block)?;
+    check_slot(&view, slot)
 }
 
 // A timer or an action is set in accepted words, whatever the slot holds.
@@ -212,8 +222,7 @@ pub fn set_on<H: Held>(block: &mut [u64], slot: Slot, held: H) -> Answer
 pub fn set<H: Held>(block: &mut [u64], slot: Slot, held: H) -> Answer
     ensures { Outcome block.old (H.setting (slot_in slot.client slot.machine) held) (answer_of result) block.new }
 {
-    let mut hints = [0u64; 12];
-    admit::lent(block, &mut hints)?;
+    admit::lent(block)?;
     set_on(block, slot, held)
 }
 
@@ -231,7 +240,6 @@ pub fn clear_on<H: Held>(block: &mut [u64], slot: Slot) -> Answer
 pub fn clear<H: Held>(block: &mut [u64], slot: Slot) -> Answer
     ensures { Outcome block.old (H.clearing (slot_in slot.client slot.machine)) (answer_of result) block.new }
 {
-    let mut hints = [0u64; 12];
-    admit::lent(block, &mut hints)?;
+    admit::lent(block)?;
     clear_on::<H>(block, slot)
 }

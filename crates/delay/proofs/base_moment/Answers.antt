@@ -8,7 +8,7 @@ returns-in_err-first c = rw c.from_residual.ensures (base_none _ _ _ _ c.chain.e
 pub plus-requires : goal.plus-requires
 plus-requires c =
     let f = c.in_ok-first.ensures in
-    base_fits _ _ _ _ c.chain.ensures.0 c.chain.ensures.1 _ _ _ f.0 f.1 f.2 c.moment.ensures _ c.args.view.now.good c.args.sum.within
+    base_fits _ _ _ _ c.chain.ensures.0 c.chain.ensures.1 _ _ _ f.0 f.1 f.2 c.moment.ensures _ c.args.side.now.view.good c.args.sum.within
 
 pub returns : goal.returns
 returns c =

@@ -2,6 +2,7 @@
 use native.Mathlib.Omega.{arith}
 use borrow.Author.Rules.{rules}
 use Rattle.layout.proofs.Walk.{walk_ended, walk_outside, walk_unfit, walk_disorder, walk_turn, walk_ends}
+use Rattle.accept.proofs.Found.{some_if}
 use Rattle.accept.proofs.records.chain_ok.Goals.{then-at-eq0-via-then-at-eq0, then-at-eq0-via-else-at-eq0+then-last-at}
 use Rattle.accept.proofs.records.chain_ok.Goals as goal
 
@@ -18,4 +19,4 @@ pub loop-preserved : goal.loop-preserved
 loop-preserved c = walk_turn _ _ _ _ _ _ _ _ c.loop.invariant c.loop-test.true _ _ _ _ _ c.get-m.ensures c.get.ensures c.get-tag.ensures c.record_ok.ensures c.if-not-record_ok.false _ c.kind-r.ensures c.follows.ensures c.if-not-follows.false c.if-at-eq0.false c.if-last-at.false _ c.get-at.ensures
 
 pub returns : goal.returns
-returns c = walk_ends _ _ _ _ _ _ _ c.loop.invariant (omega arith)
+returns c = some_if _ _ c.then_some.ensures (walk_ends _ _ _ _ _ _ _ c.loop.invariant (omega arith))

@@ -1,13 +1,10 @@
 -- `calls::turn::bit` meets its contract. Assumes nothing.
-use Rattle.calls.specs.Rows.{bit}
-use Rattle.calls.proofs.Listing.{bit_more, bit_end}
-use Prim.Native.Nat.{◌-◌, ◌/◌}
-use mathlib.Core.Path.{ap, ◌∙◌}
-use native.Mathlib.Omega.{arith}
+use borrow.Author.Rules.{rules}
+use Rattle.calls.proofs.Listing.{bit_shift, bit_past}
 use Rattle.calls.proofs.turn.bit.Goals as goal
 
-pub loop-preserved : goal.loop-preserved
-loop-preserved c = ap (bit (c.loop.rest / 2)) (omega arith) ∙ bit_more c.loop.rest (c.args.k - c.loop.counter) (omega (arith, c.loop-test.true)) ∙ c.loop.invariant
+pub returns-then-k-lt64 : goal.returns-then-k-lt64
+returns-then-k-lt64 c = bit_shift c.args.n c.args.k
 
-pub returns : goal.returns
-returns c = bit_end c.loop.rest (c.args.k - c.loop.counter) (omega (arith, c.loop-test.false)) ∙ c.loop.invariant
+pub returns-else-k-lt64 : goal.returns-else-k-lt64
+returns-else-k-lt64 c = bit_past c.args.n c.args.k (search rules) c.if-k-lt64.false

@@ -1,11 +1,15 @@
 -- `candidate::first::aggregate_candidate` meets its contract. Assumes nothing.
-use Rattle.candidate.proofs.PickLaws.{aggregate_none, aggregate_some}
+use mathlib.Core.Path.{◌≡◌}
+use native.Mathlib.Omega.{arith}
+use Rattle.std.proofs.lemmas.Grind.{common_steps}
+use Rattle.std.specs.Option.{option_map}
+use Rattle.queue_event.specs.Chain.{rec_at}
+use Rattle.queue_event.specs.Values.{read_aggregate}
+use Rattle.candidate.specs.declared.Candidate.TheVariants.{Aggregate}
+use Rattle.candidate.proofs.PickLaws.{aggregate_as}
 use Rattle.candidate.proofs.first.aggregate_candidate.Goals as goal
-
-pub returns-in_err-first : goal.returns-in_err-first
-returns-in_err-first c = rw c.from_residual.ensures (aggregate_none _ _ c.in_err-first.ensures)
 
 pub returns : goal.returns
 returns c =
-    let f = c.in_ok-first.ensures in
-    aggregate_some _ _ _ _ _ f.0 f.1 f.2 c.aggregate.ensures
+    let e : c.map.result ≡ option_map (λ x. Aggregate (read_aggregate (rec_at x.records.now x.at))) c.head.result = grind (arith, common_steps) in
+    aggregate_as _ _ _ _ c.head.ensures e

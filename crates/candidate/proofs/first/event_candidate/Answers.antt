@@ -1,9 +1,11 @@
 -- `candidate::first::event_candidate` meets its contract. Assumes nothing.
-use Rattle.candidate.proofs.PickLaws.{event_none, event_some}
+use mathlib.Core.Path.{◌≡◌}
+use native.Mathlib.Omega.{arith}
+use Rattle.std.proofs.lemmas.Grind.{common_steps}
+use Rattle.std.specs.Option.{option_map}
+use Rattle.candidate.specs.declared.Candidate.TheVariants.{Event}
+use Rattle.candidate.proofs.PickLaws.{event_as}
 use Rattle.candidate.proofs.first.event_candidate.Goals as goal
 
-pub returns-in_err-h : goal.returns-in_err-h
-returns-in_err-h c = λ v o p. rw c.from_residual.ensures (search (event_none, p, c.in_err-h.was))
-
 pub returns : goal.returns
-returns c = λ v o p. search (event_some, p, c.in_ok-h.was)
+returns c = let e : c.map.result ≡ option_map (λ x. Event x) c.args.found = grind (arith, common_steps) in λ v o p. event_as _ _ e _ _ o p

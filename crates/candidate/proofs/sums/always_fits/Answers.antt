@@ -1,6 +1,19 @@
 -- `candidate::sums::always_fits` meets its contract. Assumes nothing.
-use Rattle.candidate.proofs.SumLaws.{always_all}
+use mathlib.Core.Path.{◌≡◌, ◌∙◌}
+use Rattle.candidate.proofs.OrderLaws.{both_then, both_else}
+use Rattle.candidate.proofs.SumLaws.{below_then, below_else, first_within, always_all}
+use Rattle.candidate.proofs.sums.always_fits.Goals.{then-view-lt-LIMIT, else-view-lt-LIMIT}
 use Rattle.candidate.proofs.sums.always_fits.Goals as goal
 
-pub returns : goal.returns
-returns c = always_all _ _ _ _ c.base_fits.ensures c.base_fits-2.ensures
+pub returns-then-base_fits : goal.returns-then-base_fits
+returns-then-base_fits c =
+    let h = c.args.view.now.words in
+    let first : c.if-view-lt-LIMIT.value ≡ first_within h.header.now h.records.now = elim c.if-view-lt-LIMIT.branch [ then-view-lt-LIMIT w ↦ below_then _ _ _ _ w.if-view-lt-LIMIT.true w.value-is (rw (w.side.ensures.words, w.side.ensures.client) at w.base_fits.ensures) | else-view-lt-LIMIT w ↦ below_else _ _ _ w.if-view-lt-LIMIT.false w.value-is ] in
+    let second = rw (c.side-then-base_fits.ensures.words, c.side-then-base_fits.ensures.client) at c.base_fits-then-base_fits.ensures in
+    both_then _ _ _ first _ c.if-base_fits.true second ∙ always_all h.header.now h.records.now
+
+pub returns-else-base_fits : goal.returns-else-base_fits
+returns-else-base_fits c =
+    let h = c.args.view.now.words in
+    let first : c.if-view-lt-LIMIT.value ≡ first_within h.header.now h.records.now = elim c.if-view-lt-LIMIT.branch [ then-view-lt-LIMIT w ↦ below_then _ _ _ _ w.if-view-lt-LIMIT.true w.value-is (rw (w.side.ensures.words, w.side.ensures.client) at w.base_fits.ensures) | else-view-lt-LIMIT w ↦ below_else _ _ _ w.if-view-lt-LIMIT.false w.value-is ] in
+    both_else _ _ _ first c.if-base_fits.false ∙ always_all h.header.now h.records.now

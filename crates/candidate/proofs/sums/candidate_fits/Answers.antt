@@ -1,4 +1,5 @@
 -- `candidate::sums::candidate_fits` meets its contract. Assumes nothing.
+use mathlib.Core.Logic.{inl, inr}
 use Rattle.candidate.proofs.ActionSums.{stands_end, stands_moment, stands_duration, case_aggregate, case_block, case_event, case_timer, case_action}
 use Rattle.candidate.proofs.sums.candidate_fits.Goals as goal
 
@@ -18,10 +19,7 @@ pub returns-in-Block : goal.returns-in-Block
 returns-in-Block c = search (case_block, c.block_fits.ensures)
 
 pub returns-in-Event : goal.returns-in-Event
-returns-in-Event c = search case_event
-
-pub returns-in-Timer : goal.returns-in-Timer
-returns-in-Timer c = search case_timer
+returns-in-Event c = elim c.in-Event.is [ inl w ↦ search (case_event, w.1) | inr w ↦ search (case_timer, w.1) ]
 
 pub returns-in-Action : goal.returns-in-Action
 returns-in-Action c = search (case_action, c.action_fits.ensures)

@@ -1,10 +1,9 @@
 -- `network::tunnel::fit` meets its contract. Assumes nothing.
-use Rattle.network.proofs.TunnelLaws.{fit_last, fit_first, both_then, both_else}
-use Rattle.network.proofs.tunnel.fit.Goals.{then-base_fits, else-base_fits}
+use Rattle.network.proofs.TunnelLaws.{fit_last, fit_first}
 use Rattle.network.proofs.tunnel.fit.Goals as goal
 
-pub returns-then-fit : goal.returns-then-fit
-returns-then-fit c = elim c.if-base_fits.branch [ then-base_fits w ↦ search (fit_last, both_then) | else-base_fits w ↦ search (fit_last, both_else) ]
+pub returns-then-tested_fits : goal.returns-then-tested_fits
+returns-then-tested_fits c = search fit_last
 
-pub returns-else-fit : goal.returns-else-fit
-returns-else-fit c = elim c.if-base_fits.branch [ then-base_fits w ↦ search (fit_first, both_then) | else-base_fits w ↦ search (fit_first, both_else) ]
+pub returns-else-tested_fits : goal.returns-else-tested_fits
+returns-else-tested_fits c = search fit_first

@@ -3,4 +3,7 @@ use Rattle.network.proofs.TunnelLaws.{planned}
 use Rattle.network.proofs.tunnel.plan.Goals as goal
 
 pub returns : goal.returns
-returns c = planned _ _ c.args.e _ _ c.link_of-link.ensures c.fill-filled.ensures _ c.arrival-received.result _ c.test-tested.ensures c.plus.ensures c.arrival-received.ensures
+returns c =
+    let at = c.side-side.ensures in
+    planned _ _ c.args.e _ _ (rw (at.words, at.client) at c.link_of-link.ensures) (rw (at.words, at.client) at c.fill-filled.ensures) _ c.arrival-received.result _ (rw (at.words, at.client) at c.test-tested.ensures)
+    c.plus.ensures c.arrival-received.ensures

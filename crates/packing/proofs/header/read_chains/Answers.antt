@@ -1,7 +1,12 @@
 -- `packing::header::read_chains` meets its contract. Assumes nothing.
-use native.Mathlib.Omega.{arith}
-use Rattle.packing.proofs.Headers.{read_turn}
+use borrow.Author.Rules.{rules}
+use borrow.Author.Tests.{tests}
+use mathlib.Core.Path.{sym, ◌∙◌}
+use Rattle.packing.proofs.Headers.{none, head_at, count_at}
 use Rattle.packing.proofs.header.read_chains.Goals as goal
 
-pub loop-k-preserved : goal.loop-k-preserved
-loop-k-preserved c = read_turn _ _ _ _ (omega arith) c.of.ensures.head c.of.ensures.count c.loop-k.invariant
+pub returns-clause-heads : goal.returns-clause-heads
+returns-clause-heads c = λ k l. let called = (c.from_fn.ensures.items.at k none l).2 in sym (head_at c.from_fn.result k) ∙ search (rules, tests, called)
+
+pub returns-clause-counts : goal.returns-clause-counts
+returns-clause-counts c = λ k l. let called = (c.from_fn.ensures.items.at k none l).2 in sym (count_at c.from_fn.result k) ∙ search (rules, tests, called)

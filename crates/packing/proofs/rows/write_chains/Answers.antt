@@ -1,21 +1,26 @@
 -- `packing::rows::write_chains` meets its contract. Assumes nothing.
 use borrow.Author.Rules.{rules}
+use Prim.Native.Nat.{suc, ◌+◌}
+use mathlib.Core.Path.{◌≡◌}
 use native.Mathlib.Omega.{arith}
-use Rattle.packing.proofs.Headers.{head_at, count_at}
-use Rattle.packing.proofs.Written.{chains_start, chains_fit, chains_turn}
+use Rattle.packing.proofs.Headers.{next_head, next_count}
+use Rattle.packing.proofs.Written.{chains_start, fit_next, turn_next}
 use Rattle.packing.proofs.rows.write_chains.Goals as goal
 
-pub loop-k-init : goal.loop-k-init
-loop-k-init c = chains_start _ _
+pub loop-chain-init : goal.loop-chain-init
+loop-chain-init c = chains_start _ _
 
-pub invariant_of-chain : goal.invariant_of-chain
-invariant_of-chain c = record { row = rw (count_at c.args.chains.now c.loop-k.k, head_at c.args.chains.now c.loop-k.k) (c.requires.rows c.loop-k.k (omega arith) (omega arith)) }
+pub invariant_of-linked : goal.invariant_of-linked
+invariant_of-linked c = record { row = rw (next_count c.args.chains.now c.loop-chain.chain-index (omega arith), next_head c.args.chains.now c.loop-chain.chain-index (omega arith)) (c.requires.rows (suc c.loop-chain.chain-index) (omega arith) (omega arith)) }
 
 pub copy_chain-requires-clause-room : goal.copy_chain-requires-clause-room
-copy_chain-requires-clause-room c = rw (count_at c.args.chains.now c.loop-k.k) (chains_fit _ _ _ _ _ _ _ c.loop-k.invariant (omega arith) (omega arith) c.requires.counts_in_bounds)
+copy_chain-requires-clause-room c = rw (next_count c.args.chains.now c.loop-chain.chain-index (omega arith)) (fit_next _ _ _ _ _ _ _ c.loop-chain.invariant (omega arith) c.requires.counts_in_bounds)
 
 pub overflow_add-place : goal.overflow_add-place
-overflow_add-place c = record { fits = omega (arith, count_at c.args.chains.now c.loop-k.k, chains_fit _ _ _ _ _ _ _ c.loop-k.invariant (omega arith) (omega arith) c.requires.counts_in_bounds, c.loop-k.invariant.len) }
+overflow_add-place c = record { fits = omega (arith, next_count c.args.chains.now c.loop-chain.chain-index (omega arith), fit_next _ _ _ _ _ _ _ c.loop-chain.invariant (omega arith) c.requires.counts_in_bounds, c.loop-chain.invariant.len) }
 
-pub loop-k-preserved : goal.loop-k-preserved
-loop-k-preserved c = rw (count_at c.args.chains.now c.loop-k.k) (chains_turn _ _ _ _ _ _ _ _ c.loop-k.invariant (omega arith) (omega arith) (search rules) (rw (count_at c.args.chains.now c.loop-k.k, head_at c.args.chains.now c.loop-k.k) at c.copy_chain.ensures))
+pub loop-chain-preserved : goal.loop-chain-preserved
+loop-chain-preserved c =
+    let after : c.loop-chain.chain-index + 1 ≡ suc c.loop-chain.chain-index = omega arith in
+    rw (after, next_count c.args.chains.now c.loop-chain.chain-index (omega arith))
+    (turn_next _ _ _ _ _ _ _ c.loop-chain.invariant (omega arith) _ (search rules) (rw (next_count c.args.chains.now c.loop-chain.chain-index (omega arith), next_head c.args.chains.now c.loop-chain.chain-index (omega arith)) at c.copy_chain.ensures))

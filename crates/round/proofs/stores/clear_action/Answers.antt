@@ -4,4 +4,4 @@ use Rattle.event.specs.HandedIn.{side_of}
 use Rattle.round.proofs.stores.clear_action.Goals as goal
 
 pub returns : goal.returns
-returns c = action_cleared_lem _ c.requires (side_of c.args.p.client) _ _ c.args.p.known c.slot-j.ensures.0
+returns c = action_cleared_lem _ c.requires (side_of c.args.slot.client) _ _ c.args.slot.known c.clear_action.ensures

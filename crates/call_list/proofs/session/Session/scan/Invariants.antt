@@ -1,6 +1,6 @@
--- What the walk over a piece keeps: the session holds the two blocks that it was lent. Assumes nothing.
-use Rattle.std.specs.Prelude.{◌≡◌}
+-- What the walk over a piece keeps: the session holds what it was lent. Assumes nothing.
+use Rattle.call_list.specs.Session.{HoldsThose}
 use Rattle.call_list.proofs.session.Session.scan.Given as goal
 
 abbrev pub invariant-loop-b : goal.invariant-loop-b
-invariant-loop-b l = (l.self.state.words.ghost_name ≡ l.fn.self.state.words.ghost_name) × (l.self.second.words.ghost_name ≡ l.fn.self.second.words.ghost_name)
+invariant-loop-b l = HoldsThose l.self l.fn.self

@@ -1,8 +1,11 @@
 -- `queue::peek::ByRawMoment::earlier` meets its contract. Assumes nothing.
 use mathlib.Core.Path.{◌∙◌}
+use Rattle.rules.specs.Basics.{before}
 use Rattle.queue_event.proofs.Pairs.{pair_lt}
-use Rattle.queue.proofs.HeadsOrder.{by_raw}
 use Rattle.queue.proofs.peek.ByRawMomentOrder.earlier.Goals as goal
 
 pub returns : goal.returns
-returns c = by_raw _ _ _ c.requires.0 c.requires.1 _ _ c.rank.ensures c.rank-2.ensures (c.lt.ensures ∙ pair_lt c.args.a.event.moment.0 c.rank.result c.args.b.event.moment.0 c.rank-2.result)
+returns c =
+    let a = c.args.a.event.moment.0 in
+    let b = c.args.b.event.moment.0 in
+    c.lt.ensures ∙ pair_lt a c.rank.result b c.rank-2.result ∙ (λ d. before a (c.rank.ensures d) b (c.rank-2.ensures d))

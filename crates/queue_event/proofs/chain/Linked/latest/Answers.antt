@@ -1,27 +1,20 @@
 -- `queue_event::chain::Linked::latest` meets its contract. Assumes nothing.
 use borrow.Author.Rules.{rules}
-use mathlib.Core.Path.{refl, ◌≡◌}
-use Rattle.std.specs.Prelude.{◌<◌, ◌≤◌, max}
-use Rattle.queue_event.proofs.Folds.{latest_turn, latest_stop, latest_end, sorted_rest}
+use borrow.Author.Tests.{tests}
+use mathlib.Core.Path.{ap, ◌∙◌}
+use Rattle.std.proofs.lemmas.Iterator.Consumers.{YieldsList-at, fold_from_yields_List}
+use Rattle.std.proofs.lemmas.Iterator.Search.{YieldsList-from_take_while}
+use Rattle.queue_event.specs.Chain.{rec_at}
+use Rattle.queue_event.proofs.Walks.{walked, reached, longer, latest_reached}
 use Rattle.queue_event.proofs.chain.Linked.latest.Goals as goal
 
-pub loop-r-init : goal.loop-r-init
-loop-r-init c = rw c.into_iter-r-iterator.ensures.into_iter_gives (c.requires, refl)
-
-pub returns-then-gt : goal.returns-then-gt
-returns-then-gt c =
-    let past : c.args.window.0 < c.since.result.0 = search rules in
-    let s = c.in-Some.ensures.steps in
-    let i = c.loop-r.invariant in
-    latest_stop _ _ _ _ _ _ _ _ _ _ _ s.0 s.1 c.moment-m.ensures c.since.ensures past i.0 i.1
-
-pub loop-r-preserved : goal.loop-r-preserved
-loop-r-preserved c =
-    let inside : c.since.result.0 ≤ c.args.window.0 = search rules in
-    let best : c.max-best.result.0 ≡ max c.loop-r.best.0 c.moment-m.result.0 = search rules in
-    let s = c.in-Some.ensures.steps in
-    let i = c.loop-r.invariant in
-    (sorted_rest _ _ _ s.0 i.0, latest_turn _ _ _ _ _ _ _ _ _ _ _ s.0 s.1 c.moment-m.ensures c.since.ensures _ inside best i.1)
-
 pub returns : goal.returns
-returns c = latest_end _ _ _ _ _ c.in-None.ensures.steps.0 c.loop-r.invariant.1
+unfolding rec_at
+returns c =
+    let rs = c.args.self.now.records.now in
+    let from = c.args.reach.from.0 in
+    let margin = c.args.reach.margin.0 in
+    let f = fold_from_yields_List _ (longer rs from margin) _ _ c.fold.ensures.ran
+    (YieldsList-from_take_while _ (reached rs from margin) (YieldsList-at c.take_while.ensures.source (walked _)) c.take_while.ensures.closure c.take_while.ensures.done (λ x b q k. search (rules, tests)))
+    (λ a x b q k. search (rules, tests)) in
+    ap (λ m. m.0) f ∙ latest_reached rs from margin _ c.requires _

@@ -1,22 +1,20 @@
 -- `queue_event::chain::Linked::seek` meets its contract. Assumes nothing.
-use mathlib.Core.Path.{refl, ◌∙◌}
-use Rattle.queue_event.proofs.Inserts.{seek_turn, seek_stop, seek_end}
+use borrow.Author.Rules.{rules}
+use borrow.Author.Tests.{tests}
+use mathlib.Core.Path.{sym, subst}
+use Rattle.std.proofs.lemmas.Iterator.{items_from_drains}
+use Rattle.std.proofs.lemmas.Iterator.Consumers.{YieldsList-at}
+use Rattle.std.proofs.lemmas.Iterator.Search.{YieldsList-from_take_while}
+use Rattle.queue_event.specs.Chain.{rec_at}
+use Rattle.queue_event.specs.Walks.{Finds}
+use Rattle.queue_event.proofs.Walks.{walked, before, last_before}
 use Rattle.queue_event.proofs.chain.Linked.seek.Goals as goal
 
-pub loop-r-init : goal.loop-r-init
-loop-r-init c = rw c.into_iter-r-iterator.ensures.into_iter_gives (refl, refl, tt)
-
-pub returns-then-not-stays : goal.returns-then-not-stays
-returns-then-not-stays c =
-    let s = c.in-Some.ensures.steps in
-    let i = c.loop-r.invariant in
-    record { number = seek_stop _ _ _ _ _ _ _ _ _ _ _ _ s.0 s.1 c.moment.ensures c.tag.ensures c.stays.ensures i.1 c.if-not-stays.true; of = i.2 }
-
-pub loop-r-preserved : goal.loop-r-preserved
-loop-r-preserved c =
-    let s = c.in-Some.ensures.steps in
-    let i = c.loop-r.invariant in
-    (s.2 ∙ i.0, seek_turn _ _ _ _ _ _ _ _ _ _ _ _ s.0 s.1 c.moment.ensures c.tag.ensures c.stays.ensures i.1 c.if-not-stays.false, s.1 ∙ i.0)
-
 pub returns : goal.returns
-returns c = record { number = seek_end _ _ _ _ _ c.in-None.ensures.steps.0 c.loop-r.invariant.1; of = c.loop-r.invariant.2 }
+unfolding rec_at
+returns c =
+    let (xs, d, e) = c.last.ensures.ran in
+    let test = before c.args.self.now.records.now c.args.moment.0 c.args.tag in
+    let seen = items_from_drains xs (d.1.0, d.1.1, λ _. (d.0, d.1.2))
+    (YieldsList-from_take_while _ test (YieldsList-at c.take_while.ensures.source (walked _)) c.take_while.ensures.closure c.take_while.ensures.done (λ x b q k. search (rules, tests))) in
+    subst (Finds _ _) (sym e) (last_before _ _ _ _ xs _ tt seen)

@@ -2,8 +2,8 @@
 use Rattle.simulator.proofs.ActionOutcomes.{emptied_small, emptied_done}
 use Rattle.simulator.proofs.slots.ScheduledActionHeld.empty.Goals as goal
 
-pub slot-j-requires : goal.slot-j-requires
-slot-j-requires c = search emptied_small
+pub known-requires : goal.known-requires
+known-requires c = search emptied_small
 
 pub returns : goal.returns
-returns c = search emptied_done
+returns c = search (emptied_done, c.known.ensures, c.clear_action.ensures)

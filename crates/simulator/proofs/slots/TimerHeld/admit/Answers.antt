@@ -1,6 +1,6 @@
 -- `simulator::slots::Timer::admit` meets its contract. Assumes nothing.
 use Rattle.simulator.proofs.Handed.{handed}
-use Rattle.simulator.proofs.SlotNumbers.{timer_n, slot_small, timer_7, timer_9, timer_0}
+use Rattle.simulator.proofs.SlotNumbers.{number_is, timer_n, slot_small, timer_7, timer_9, timer_0}
 use Rattle.simulator.proofs.slots.TimerHeld.admit.Goals as goal
 
 pub returns-in_err-check_slot : goal.returns-in_err-check_slot
@@ -9,11 +9,11 @@ returns-in_err-check_slot c = rw (handed c.from_residual.result c.in_err-check_s
 pub returns-then-not-fits : goal.returns-then-not-fits
 returns-then-not-fits c = search (timer_7, c.in_ok-check_slot.ensures)
 
-pub slot-j-requires : goal.slot-j-requires
-slot-j-requires c = search (slot_small, c.in_ok-check_slot.ensures)
+pub known-requires : goal.known-requires
+known-requires c = search (slot_small, c.in_ok-check_slot.ensures)
 
 pub returns-then-no_room : goal.returns-then-no_room
-returns-then-no_room c = search (timer_9, c.in_ok-check_slot.ensures)
+returns-then-no_room c = let e = number_is _ _ _ c.number-j.ensures c.known.ensures in search (timer_9, e, c.in_ok-check_slot.ensures)
 
 pub returns : goal.returns
-returns c = search (timer_0, c.in_ok-check_slot.ensures)
+returns c = let e = number_is _ _ _ c.number-j.ensures c.known.ensures in search (timer_0, e, c.in_ok-check_slot.ensures)

@@ -2,8 +2,8 @@
 use Rattle.simulator.proofs.SlotOutcomes.{clear_small, clear_done}
 use Rattle.simulator.proofs.slots.TimerHeld.empty.Goals as goal
 
-pub slot-j-requires : goal.slot-j-requires
-slot-j-requires c = search clear_small
+pub known-requires : goal.known-requires
+known-requires c = search clear_small
 
 pub returns : goal.returns
-returns c = search clear_done
+returns c = rw c.clear_timer.ensures (search (clear_done, c.known.ensures))

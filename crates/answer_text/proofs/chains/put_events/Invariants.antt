@@ -1,0 +1,9 @@
+-- What the walk keeps: the place for the answers is the one that was lent. Assumes nothing.
+use Rattle.std.specs.Prelude.{◌≡◌}
+use Rattle.answer_text.proofs.chains.put_events.Given as goal
+
+abbrev pub invariant-loop-r : goal.invariant-loop-r
+invariant-loop-r l = l.out.buffer.ghost_name ≡ l.fn.out.buffer.ghost_name
+
+abbrev pub invariant-loop-of : goal.invariant-loop-of
+invariant-loop-of l = l.out.buffer.ghost_name ≡ l.fn.out.buffer.ghost_name

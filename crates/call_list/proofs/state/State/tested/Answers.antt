@@ -1,0 +1,6 @@
+-- `call_list::state::State::tested` meets its contract. Assumes nothing.
+use Rattle.call_list.proofs.Refusing.{tested_refused}
+use Rattle.call_list.proofs.state.State.tested.Goals as goal
+
+pub returns-in_err-self-clause-tested : goal.returns-in_err-self-clause-tested
+returns-in_err-self-clause-tested c = search (tested_refused, c.in_err-self.ensures)

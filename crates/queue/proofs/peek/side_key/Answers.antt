@@ -1,6 +1,0 @@
--- `queue::peek::side_key` meets its contract. Assumes nothing.
-use Rattle.queue.proofs.HeadsKeys.{side_keyed}
-use Rattle.queue.proofs.peek.side_key.Goals as goal
-
-pub returns : goal.returns
-returns c = search side_keyed
