@@ -82,7 +82,7 @@ impl<'a> Output<'a> {
     }
 }
 
-// More bytes than any line here has.
+// More bytes than any text here has: none has more than 126.
 const LINE: usize = 256;
 
 // A line, or a part of one, as it is printed.

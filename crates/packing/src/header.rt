@@ -31,7 +31,7 @@ pub fn start_chains(chains: &[Entry; 12]) -> [Entry; 12]
 {
     let mut packed = *chains;
     let mut place = 1;
-    // by number: with packed[1..].iter_mut() the goal of the heads on return stayed open (c), in the time there was
+    // by number: with packed[1..].iter_mut() four goals stayed open, among them that of the heads on return
     for k in 1..12 {
         packed[k].head = first(place, chains[k].count);
         place += chains[k].count;
