@@ -103,6 +103,7 @@ def written(edits):
 
 FUNCTION = re.compile(r'( *)(?:pub(?:\(\w+\))? )?(?:extern "C" )?fn (\w+)')
 IMPL = re.compile(r"impl(?:<[^>]*>)? (?:(?:\w+::)*(\w+)(?:<(.*)>)? for )?(?:\w+::)*(\w+)")
+TYPE = re.compile(r"^(?:pub(?:\(\w+\))? )?(?:struct|enum) (\w+)", re.M)
 CONSTANT = re.compile(r"^ *(?:pub(?:\(\w+\))? )?const (\w+):.*?;$", re.M | re.S)
 
 
@@ -123,9 +124,13 @@ def owned(impl):
     return name + (trait or "") + "".join(word[0].upper() + word[1:] for word in re.findall(r"\w+", arguments or ""))
 
 
-def functions_in(file, text):
-    """The bodies of a file's functions, each by its path within the crate."""
-    module = [m for m in file.removeprefix("src/").removesuffix(".rt").split("/") if m not in ("lib", "main", "mod")]
+def module_of(file):
+    return [m for m in file.removeprefix("src/").removesuffix(".rt").split("/") if m not in ("lib", "main", "mod")]
+
+
+def functions_in(file, text, homes):
+    """The bodies of a file's functions, each by its path within the crate. A type's own functions go by the module of the type (homes), wherever they stand."""
+    here = module = module_of(file)
     found, owner, name, margin, body, place = [], [], None, "", None, 0
     for line in text.splitlines(keepends=True):
         start, place = place, place + len(line)
@@ -134,8 +139,9 @@ def functions_in(file, text):
             owns, begins = IMPL.match(code), FUNCTION.match(code)
             if owns:
                 owner = [owned(owns)]
+                module = here if owns[1] else homes.get(owns[3], here)
             elif code == "}":
-                owner = []
+                owner, module = [], here
             elif begins:
                 margin, body = begins[1], None
                 name = "::".join(module + owner + [begins[2]])
@@ -159,7 +165,8 @@ class Crate:
         self.texts = {}
         for path in sorted(glob.glob(os.path.join(folder, "src/**/*.rt"), recursive=True)):
             self.texts[os.path.relpath(path, folder)] = read(path)
-        self.functions = [p for file, text in self.texts.items() for p in functions_in(file, text)]
+        homes = {name: module_of(file) for file, text in self.texts.items() for name in TYPE.findall(text)}
+        self.functions = [p for file, text in self.texts.items() for p in functions_in(file, text, homes)]
         self.constants = [Part(m[1], file, *m.span(), text) for file, text in self.texts.items() for m in CONSTANT.finditer(text)]
         self.names = {p.name for p in self.functions}
         if len(self.names) < len(self.functions):
