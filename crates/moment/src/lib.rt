@@ -165,6 +165,13 @@ impl Length {
         Length(self.0 + l.0)
     }
 
+    // Whether it is longer than another.
+    pub fn exceeds(self, l: Length) -> bool
+        ensures { result ≡ ltb l.0 self.0 }
+    {
+        l < self
+    }
+
     // What is left of this length after another that is no longer.
     pub fn less(self, l: Length) -> Length
         requires { l.0 ≤ self.0 }
