@@ -30,6 +30,6 @@ pub record Finds (rs : List ℕ) (goal : ℕ) (r : Option Record) : Type 0 where
   pub number : number_or 0 r ≡ goal
   pub of : IfSome r (λ x. x.records.now ≡ rs)
 
--- what is told is record r, one of chain number k that nothing follows; where nothing is told nothing is said
+-- what is told is record r, one of chain number k that nothing follows; nothing is told only where it is no such record
 abbrev pub ToldEnd : List ℕ → ℕ → ℕ → Option Record → Type 0
-ToldEnd rs k r o = IfSome o (λ x. (x.records.now ≡ rs) × (x.at ≡ r) × EndsAt rs k r)
+ToldEnd rs k r o = MatchOption o (EndsAt rs k r → ⊥) (λ x. (x.records.now ≡ rs) × (x.at ≡ r) × EndsAt rs k r)
