@@ -9,7 +9,7 @@ use native.Mathlib.Omega.{arith}
 use lib.Dec.{leb}
 use lib.ListN.{length, length-append}
 use borrow.Author.Tests.{lt-ltb, le-ltb}
-use Rattle.std.specs.Prelude.{if◌then◌else◌}
+use Rattle.std.specs.Prelude.{Option, Some, if◌then◌else◌}
 use Rattle.rules.specs.Basics.{Side}
 use Rattle.rules.specs.State.{Event, Held, SideState, side}
 use Rattle.rules.specs.Aggregates.{any_within, waiting, base_moment}
@@ -18,6 +18,9 @@ use Rattle.queue_event.specs.Words.{moment_of}
 use Rattle.queue_event.specs.Chain.{Node, nodes, rec_at, recs, pick}
 use Rattle.queue_event.specs.Order.{Sorted}
 use Rattle.queue_event.specs.Folds.{later, latest_of, any_within as any_rec}
+use Rattle.queue_event.specs.Walks.{left, Walked}
+use Rattle.queue_event.specs.declared.chain.Linked.{Linked}
+use Rattle.queue_event.specs.declared.read.Record.{Record}
 use Rattle.layout.specs.Records.{head_of, count_of, chain_at, Fit}
 use Rattle.layout.specs.Accepted.{Good}
 use Rattle.layout.specs.Layout.{state_from, chains, held_event, event_from}
@@ -98,6 +101,14 @@ module _ (h rs : List ℕ) (z : Side) (q : Queue) (k : ℕ) (ek : k ≡ queue_no
 
   pub latest_held : (best r : ℕ) → r ≡ latest_of from width best (recs xs) → r ≡ tail_over width from best (held_in (side (state_from h rs) z) q)
   latest_held best r er = er ∙ latest_map z from width best xs ∙ ap (λ x. tail_over width from best (map (held_event z) x)) e ∙ ap (tail_over width from best) (sym (held_is h rs z q k ek l))
+
+-- any_rest after a turn of a walk, in the order in which a search finds it
+pub any_next :
+    (s t : Linked) (o : Option Record) → Walked s o t → (x : Record) → o ≡ Some x → (h rs : List ℕ) (k : ℕ) → left s ≡ chain_at h rs k
+    → (z : Side) (q : Queue) → (k ≡ queue_no q + 5 * side_no z) × (k ≤ 10)
+    → (from width : ℕ) (r : Bool) → r ≡ any_rec from width (recs (left t)) → r ≡ any_in width from (behind_in (side (state_from h rs) z) q)
+any_next s t o w x ex h rs k e z q ek from width r er =
+    let u : Walked s (Some x) t = rw ex at w in any_rest h rs z q k ek.0 ek.1 _ e from width _ _ r u.0 er
 
 -- ---- adjacent, beside
 

@@ -18,6 +18,7 @@ fn any_in(side: &SideView, of: Queue, reach: Reach) -> bool
 }
 
 // The same of those behind the head of the queue.
+#[tactic(auto, using(crate::proofs::Packets::any_next))]
 fn any_behind(side: &SideView, of: Queue, reach: Reach) -> bool
     ensures { result ≡ any_in reach.margin.0 reach.from.0 (behind_in (side_at side.now) of) }
 {
