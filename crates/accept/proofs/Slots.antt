@@ -4,21 +4,20 @@ use mathlib.Core.Path.{◌≡◌, refl, sym, ap, subst, ◌∙◌}
 use mathlib.Core.Bool.{Bool, true, false}
 use mathlib.Core.List.{List, [], ◌∷◌}
 use native.Mathlib.Omega.{arith}
+use native.Mathlib.Decide.{ℕ_discrete}
 use lib.Bits.{bit_or, or_add_and, and_le_l, and_le_r, or_zero_l}
 use lib.Dec.{eqb, ltb}
 use lib.ListN.{length, get_or, take, drop}
 use borrow.Author.Tests.{ltb-true, ltb-false}
-use Rattle.std.specs.Prelude.{None}
-use Rattle.std.specs.Bool.{MatchBool}
-use Rattle.std.specs.List.{fold, sum_by, range_with_len, AllWithin, HoldsAt}
+use Rattle.std.specs.Prelude.{Option, Some, None}
+use Rattle.std.specs.List.{fold, sum_by, range_with_len}
 use Rattle.std.proofs.Common.{length-take, length-drop}
 use Rattle.std.proofs.lemmas.List.{get_or-take, get_or-drop}
-use Rattle.std.proofs.lemmas.List.FromFn.{get_or-range_with_len, length-range_with_len}
 use Rattle.layout.specs.Header.{Limited, ActionOk, SlotEmpty, SlotOk, SlotsOk, machines_of, block_of, timer_of, action_of, action_moment, action_duration, held, slots_room, reserved}
 use Rattle.layout.specs.Decides.{Decides}
-use Rattle.layout.proofs.Deciding.{holds, fails, denied, hands, by_eqb, false_true}
+use Rattle.layout.proofs.Deciding.{denied, hands, by_eqb, false_true}
 use Rattle.layout.proofs.Sums.{slots_room_zero, slots_room_more}
-use Rattle.accept.specs.Slots.{Zeros, EmptyIn, OkIn, RoomIn, FoundAll}
+use Rattle.accept.specs.Slots.{Zeros, EmptyIn, OkIn, RoomIn, FoundIn, FoundAll}
 
 -- ---- one slot
 
@@ -140,21 +139,18 @@ module _ (h : List ℕ) (a e : ℕ) where
 
 -- ---- turn by turn
 
--- P of each number from a on, below e, as `all` asks it
-pub each_decides :
-    (P : ℕ → Type 0) (a e : ℕ) (r : Bool)
-    → MatchBool r (AllWithin P (range_with_len a (e - a)) 0 (length (range_with_len a (e - a)))) ((k : ℕ) × (k < length (range_with_len a (e - a))) × HoldsAt (λ x. P x → ⊥) (range_with_len a (e - a)) k)
-    → Decides ((j : ℕ) → a ≤ j → j < e → P j) r
-each_decides P a e true m = holds (λ j lo hi. subst P (get_or-range_with_len a (e - a) (j - a) 0 (omega arith) ∙ omega arith) (m (j - a) 0 (omega arith) (rw length-range_with_len (omega arith))))
-each_decides P a e false m =
-    let k : m.0 < e - a = rw length-range_with_len at m.1 in
-    fails (λ all. m.2 0 (subst P (sym (get_or-range_with_len a (e - a) m.0 0 k)) (all (a + m.0) (omega arith) (omega arith))))
+pub ok_more : (h : List ℕ) (a j : ℕ) → OkIn h a j → SlotOk h j → OkIn h a (j + 1)
+ok_more h a j o p k l m = go (ℕ_discrete k j)
+  where
+    go : Dec (k ≡ j) → SlotOk h k
+    go (yes q) = subst (λ (x : ℕ). SlotOk h x) (sym q) p
+    go (no q) = o k l (omega (arith, q))
 
 -- what slot j keeps in reserve
 abbrev pub kept_at : List ℕ → ℕ → ℕ
 kept_at h j = held (timer_of h j) + 4 * held (action_of h j)
 
-room_turn : (h : List ℕ) (a j sum : ℕ) → RoomIn h a j sum → RoomIn h a (j + 1) (sum + kept_at h j)
+pub room_turn : (h : List ℕ) (a j sum : ℕ) → RoomIn h a j sum → RoomIn h a (j + 1) (sum + kept_at h j)
 room_turn h a j sum p = record { is = omega (arith, p.is, slots_room_more h j); most = omega (arith, p.most) }
 
 room_from : (h : List ℕ) (a j n sum : ℕ) → RoomIn h a j sum → RoomIn h a (j + n) (fold (λ s x. s + kept_at h x) sum (range_with_len j n))
@@ -217,21 +213,33 @@ module _ (h : List ℕ) where
     omega (arith, eb.1, rc.most, rs.most, l 8 (omega arith), l 9 (omega arith)),
   )
 
+-- ---- what a test found, by its answer
+
+module _ (h : List ℕ) (a e : ℕ) (x : Option ℕ) (p : FoundIn h a e x) where
+  wrong_in : x ≡ None → OkIn h a e → ⊥
+  unfolding FoundIn
+  wrong_in q = subst (FoundIn h a e) q p
+
+  pub right_in : (r : ℕ) → x ≡ Some r → OkIn h a e × RoomIn h a e r
+  unfolding FoundIn
+  right_in r q = subst (FoundIn h a e) q p
+
 -- ---- the test of all slots, from a on, below e: above the client's machine count, above the server's, the client's machines, the server's
 
-module _ (h : List ℕ) (l : Limited h) (a e : ℕ) (r : Bool) where
-  pub past_client_set : a ≡ get_or h 8 0 → e ≡ 16 → Decides (EmptyIn h a e) r → r ≡ false → FoundAll h None
+module _ (h : List ℕ) (l : Limited h) (a e : ℕ) where
+  pub past_client_set : (r : Bool) → a ≡ get_or h 8 0 → e ≡ 16 → Decides (EmptyIn h a e) r → r ≡ false → FoundAll h None
   unfolding FoundAll
-  past_client_set ea ee d f ok = denied d f (rw (ea, ee) (client_past h ok))
+  past_client_set r ea ee d f ok = denied d f (rw (ea, ee) (client_past h ok))
 
-  pub past_server_set : a ≡ 16 + get_or h 9 0 → e ≡ 32 → Decides (EmptyIn h a e) r → r ≡ false → FoundAll h None
+  pub past_server_set : (r : Bool) → a ≡ 16 + get_or h 9 0 → e ≡ 32 → Decides (EmptyIn h a e) r → r ≡ false → FoundAll h None
   unfolding FoundAll
-  past_server_set ea ee d f ok = denied d f (rw (ea, ee) (server_past h ok))
+  past_server_set r ea ee d f ok = denied d f (rw (ea, ee) (server_past h ok))
 
-  pub client_wrong : a ≡ 0 → e ≡ get_or h 8 0 → Decides (OkIn h a e) r → r ≡ false → FoundAll h None
-  unfolding FoundAll
-  client_wrong ea ee d f ok = denied d f (λ j _ k. ok j (omega (arith, k, ee, l 8 (omega arith))))
+  module _ (x : Option ℕ) (p : FoundIn h a e x) (q : x ≡ None) where
+    pub client_wrong : a ≡ 0 → e ≡ get_or h 8 0 → FoundAll h None
+    unfolding FoundAll
+    client_wrong ea ee ok = wrong_in h a e x p q (λ j _ k. ok j (omega (arith, k, ee, l 8 (omega arith))))
 
-  pub server_wrong : a ≡ 16 → e ≡ 16 + get_or h 9 0 → Decides (OkIn h a e) r → r ≡ false → FoundAll h None
-  unfolding FoundAll
-  server_wrong ea ee d f ok = denied d f (λ j _ k. ok j (omega (arith, k, ee, l 9 (omega arith))))
+    pub server_wrong : a ≡ 16 → e ≡ 16 + get_or h 9 0 → FoundAll h None
+    unfolding FoundAll
+    server_wrong ea ee ok = wrong_in h a e x p q (λ j _ k. ok j (omega (arith, k, ee, l 9 (omega arith))))

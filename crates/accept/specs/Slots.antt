@@ -19,6 +19,11 @@ pub record RoomIn (h : List ℕ) (a e r : ℕ) : Type 0 where
   pub is : slots_room h a + r ≡ slots_room h e
   pub most : r + 5 * a ≤ 5 * e
 
+-- of a test of the slots from a on, below e: where each is in order, what they keep in reserve
+unfoldable pub FoundIn : List ℕ → ℕ → ℕ → Option ℕ → Type 0
+FoundIn h a e None = OkIn h a e → ⊥
+FoundIn h a e (Some r) = OkIn h a e × RoomIn h a e r
+
 -- of the test of all slots: where they are in order, all that is kept in reserve
 unfoldable pub FoundAll : List ℕ → Option ℕ → Type 0
 FoundAll h None = SlotsOk h → ⊥

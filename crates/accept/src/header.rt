@@ -3,7 +3,7 @@ ghost use Rattle.std.specs.Prelude.{◌≡◌, Bool, ℕ, ◌+◌, ◌*◌, ◌<
 ghost use Rattle.layout.specs.Decides.{Decides};
 ghost use Rattle.layout.specs.Records.{chain_count};
 ghost use Rattle.layout.specs.Header.{Limited, ActionOk, SlotEmpty, SlotOk, SlotsOk, block_of, timer_of, action_of, held, reserved as reserved_of};
-ghost use Rattle.accept.specs.Slots.{Zeros, EmptyIn, OkIn, RoomIn, FoundAll};
+ghost use Rattle.accept.specs.Slots.{Zeros, EmptyIn, RoomIn, FoundIn, FoundAll};
 
 use moment::{Length, Moment};
 
@@ -159,11 +159,19 @@ impl Header<'_> {
             && none_set(&words[96 + 3 * slots.from..96 + 3 * slots.end])
     }
 
-    // Whether each of these slots is in order.
-    fn each_slot(&self, slots: Slots) -> bool
-        ensures { Decides (OkIn self.now.words.now slots.from slots.end) result }
+    // The test of these slots: each is tested, and what it keeps in reserve is added in the same loop. Answers the records that they keep, and none where one is
+    // not in order.
+    fn each_slot(&self, slots: Slots) -> Option<u64>
+        ensures { FoundIn self.now.words.now slots.from slots.end result }
     {
-        (slots.from..slots.end).all(|j| self.slot_ok(j))
+        let mut reserve = 0;
+        for j in slots.from..slots.end {
+            if !self.slot_ok(j) {
+                return None;
+            }
+            reserve += self.slot_room(j);
+        }
+        Some(reserve)
     }
 
     // The test of all slots: those of the machines one by one; those above a side's machine count have to be empty, as most slots are. Answers the records that
@@ -174,14 +182,15 @@ impl Header<'_> {
     {
         let client = self.words[8] as usize;
         let server = 16 + self.words[9] as usize;
-        if self.all_empty(Slots::between(client, 16))
-            && self.all_empty(Slots::between(server, 32))
-            && self.each_slot(Slots::between(0, client))
-            && self.each_slot(Slots::between(16, server))
-        {
-            return Some(self.in_reserve());
+        if !self.all_empty(Slots::between(client, 16)) {
+            return None;
         }
-        None
+        if !self.all_empty(Slots::between(server, 32)) {
+            return None;
+        }
+        let of_client = self.each_slot(Slots::between(0, client))?;
+        let of_server = self.each_slot(Slots::between(16, server))?;
+        Some(self.blocks_room() + of_client + of_server)
     }
 
     // What these slots keep in reserve.
