@@ -11,16 +11,14 @@ use Rattle.rules.specs.ChoiceHeads.{Head}
 use Rattle.rules.specs.ChoiceDelays.{Delays as RulesDelays, delays, offered, next_block}
 use Rattle.rules.specs.ChoiceRound.{Slot, Candidate as RulesCandidate, candidate, first_fitting, aggregate_first, block_first, event_first, timer_first, or_none, an_aggregate, a_block, an_event, a_timer, an_action, none_left, timer_slot, action_slot, action_from, action_in, due_timer, due_action}
 use Rattle.layout.specs.Layout.{state_from}
-use Rattle.queue.specs.declared.view.Words.{Words}
-use Rattle.queue.specs.Views.{state_in}
-use Rattle.queue.specs.Heads.{PeekedBothIn}
+use Rattle.queue.specs.Heads.{PeekedBoth}
 use Rattle.moment.specs.declared.Length.{Length}
 use Rattle.queue_peek.specs.declared.five.Delays.{Delays}
 use Rattle.queue_peek.specs.Decoded.{delay_of, delays_of}
 use Rattle.candidate.specs.declared.Candidate.{Candidate}
 use Rattle.candidate.specs.declared.Candidate.TheVariants.{Aggregate, Block, Event, Timer, Action as TheAction}
 use Rattle.candidate.specs.Candidates.{candidate_of, next_of, Reckoned, NextReckoned}
-use Rattle.candidate.specs.Promises.{Picked, PickedIn, TakenUp, later_fitting}
+use Rattle.candidate.specs.Promises.{Picked, TakenUp, later_fitting}
 use Rattle.candidate.proofs.PickLaws.{moved}
 
 -- ---- the tests
@@ -105,9 +103,9 @@ chose_2 : {A : Type 0} (b : Bool) (x y : A) → b ≡ false → y ≡ (if b then
 chose_2 b x y e = sym (ap (λ (c : Bool). if c then x else y) e)
 
 pub later_event :
-    (v : Words) (t : ℕ) (d : Delays) (r : Option Candidate) (x : Bool) → x ≡ event_first (delays_of d) → x ≡ true → PeekedBothIn v d.found (offered (state_in v) t)
-    → ((u : Words) (o : RulesOption Head) → PeekedBothIn u d.found o → PickedIn u r (or_none an_event o)) → PickedIn v r (later_fitting (state_in v) t (delays_of d))
-later_event v t d r x ex e p q = moved v.header.now v.records.now r _ _ (q v _ p) (chose_1 (event_first (delays_of d)) _ _ (sym ex ∙ e))
+    (h rs : List ℕ) (t : ℕ) (d : Delays) (r : Option Candidate) (x : Bool) → x ≡ event_first (delays_of d) → x ≡ true → PeekedBoth h rs d.found (offered (state_from h rs) t)
+    → ((g qs : List ℕ) (o : RulesOption Head) → PeekedBoth g qs d.found o → Picked g qs r (or_none an_event o)) → Picked h rs r (later_fitting (state_from h rs) t (delays_of d))
+later_event h rs t d r x ex e p q = moved h rs r _ _ (q h rs _ p) (chose_1 (event_first (delays_of d)) _ _ (sym ex ∙ e))
 
 module _ (h rs : List ℕ) (t : ℕ) (d : Delays) (r : Option Candidate) where
   module _ (x : Bool) (ex : x ≡ event_first (delays_of d)) where

@@ -7,7 +7,7 @@ use Rattle.rules.specs.Limits.{moment_limit}
 use Rattle.rules.specs.ChoiceDelays.{Delays, offered}
 use Rattle.rules.specs.ChoiceRound.{Slot as RulesSlot, Candidate as RulesCandidate, an_event, or_none, slot_at, slot_of, due_timer, due_action, event_first, timer_first}
 use Rattle.queue.specs.declared.header.Slot.{Slot}
-use Rattle.queue.specs.declared.view.Words.{Words}
+use Rattle.queue.specs.declared.view.View.{View}
 use Rattle.candidate.specs.declared.Due.{Due}
 use Rattle.candidate.specs.declared.Candidate.{Candidate}
 use Rattle.candidate.specs.Candidates.{slot_from, due_slot, next_of, NextStands, NextReckoned}
@@ -54,11 +54,11 @@ pub record TakenUp (h rs : List ℕ) (t : ℕ) (r : Option Candidate) (c : Rules
   pub reckoned : NextReckoned h rs t r
 
 -- the same of the words in view
-abbrev pub PickedIn : Words → Option Candidate → RulesCandidate → Type 0
-PickedIn v r c = Picked v.header.now v.records.now r c
+abbrev pub PickedIn : View → Option Candidate → RulesCandidate → Type 0
+PickedIn v r c = Picked v.words.header.now v.records.now r c
 
-abbrev pub TakenUpIn : Words → ℕ → Option Candidate → RulesCandidate → Type 0
-TakenUpIn v t r c = TakenUp v.header.now v.records.now t r c
+abbrev pub TakenUpIn : View → ℕ → Option Candidate → RulesCandidate → Type 0
+TakenUpIn v t r c = TakenUp v.words.header.now v.records.now t r c
 
 -- a delay from t ends within the limit
 unfoldable pub Ahead : ℕ → Delay → Type 0

@@ -1,17 +1,16 @@
 // Which of the five a round takes up: the first that fits.
-ghost use Rattle.std.specs.Prelude.{◌≡◌, false as no};
+ghost use Rattle.std.specs.Prelude.{◌≡◌, ℕ, List, false as no};
 ghost use mathlib.Core.List.{head?};
 ghost use Rattle.std.proofs.Math.Option.{Option};
 ghost use Rattle.rules.specs.ChoiceHeads.{Head as RulesHead, waiting_head};
 ghost use Rattle.rules.specs.ChoiceDelays.{delays as delays_at, next_block};
 ghost use Rattle.rules.specs.ChoiceDelays.{offered as offered_at};
 ghost use Rattle.rules.specs.ChoiceRound.{candidate as candidate_at, aggregate_first, block_first, event_first, or_none, an_aggregate, a_block, an_event, due_timer, due_action, held_up_length};
-ghost use Rattle.queue.specs.declared.view.Words.{Words};
-ghost use Rattle.queue.specs.Heads.{PeekedBothIn};
+ghost use Rattle.queue.specs.Heads.{PeekedBoth, PeekedBothIn};
 ghost use Rattle.queue.specs.Views.{state_in, side_at};
 ghost use Rattle.queue_peek.specs.Decoded.{delay_of, delays_of};
 ghost use Rattle.delay.specs.Tests.{delayed_of};
-ghost use Rattle.candidate.specs.Promises.{PickedIn, TakenUpIn};
+ghost use Rattle.candidate.specs.Promises.{Picked, PickedIn, TakenUpIn};
 ghost use Rattle.candidate.specs.Promises.{Ahead, later_fitting};
 
 use crate::{Candidate, slots};
@@ -45,7 +44,7 @@ fn event_first(d: Delays) -> bool
 
 // The first aggregate.
 fn aggregate_candidate(view: &View) -> Option<Candidate>
-    ensures { PickedIn view.now.words result (or_none an_aggregate (head? (state_in view.now.words).aggregates)) }
+    ensures { PickedIn view.now result (or_none an_aggregate (head? (state_in view.now).aggregates)) }
 {
     view.head(header::AGGREGATES)
         .map(|first| Candidate::Aggregate(first.aggregate()))
@@ -61,7 +60,7 @@ fn held_up(side: &SideView, end: Moment) -> Option<Length>
 
 // The next block to end. What waits behind it is looked through here, once for its sums and its aggregates.
 fn block_candidate(view: &View, time: Moment) -> Option<Candidate>
-    ensures { TakenUpIn view.now.words time.0 result (or_none a_block (next_block (state_in view.now.words))) }
+    ensures { TakenUpIn view.now time.0 result (or_none a_block (next_block (state_in view.now))) }
 {
     let k = queue_peek::next_block(&view.words)?;
     let end = k.end_moment(time);
@@ -71,7 +70,7 @@ fn block_candidate(view: &View, time: Moment) -> Option<Candidate>
 
 // What the queues offer: the head that was found with its delay.
 fn event_candidate(found: Option<Head>) -> Option<Candidate>
-    ensures { (v : Words) (o : Option RulesHead) → PeekedBothIn v found o → PickedIn v result (or_none an_event o) }
+    ensures { (h rs : List ℕ) (o : Option RulesHead) → PeekedBoth h rs found o → Picked h rs result (or_none an_event o) }
 {
     found.map(Candidate::Event)
 }
@@ -80,7 +79,7 @@ fn event_candidate(found: Option<Head>) -> Option<Candidate>
 // slot that is due after a delay, and is no shorter.
 fn timer_candidate(view: &View, i: Option<Length>, time: Moment) -> Option<Candidate>
     requires { Ahead time.0 (delay_of i) }
-    ensures { PickedIn view.now.words result (due_timer (state_in view.now.words) time.0 (delay_of i)) }
+    ensures { PickedIn view.now result (due_timer (state_in view.now) time.0 (delay_of i)) }
 {
     let l = i?;
     let d = slots::due::<Timers>(&Slotted::of(view), time.plus(l))?;
@@ -90,7 +89,7 @@ fn timer_candidate(view: &View, i: Option<Length>, time: Moment) -> Option<Candi
 // The action that is due after the delay.
 fn action_candidate(view: &View, s: Option<Length>, time: Moment) -> Option<Candidate>
     requires { Ahead time.0 (delay_of s) }
-    ensures { PickedIn view.now.words result (due_action (state_in view.now.words) time.0 (delay_of s)) }
+    ensures { PickedIn view.now result (due_action (state_in view.now) time.0 (delay_of s)) }
 {
     let l = s?;
     let d = slots::due::<Actions>(&Slotted::of(view), time.plus(l))?;
@@ -99,9 +98,9 @@ fn action_candidate(view: &View, s: Option<Length>, time: Moment) -> Option<Cand
 
 // The last three of the five.
 fn later_candidate(view: &View, d: Delays, time: Time) -> Option<Candidate>
-    requires delays_here { delays_of d ≡ delays_at (state_in view.now.words) time.at.0 }
-    requires head_here { PeekedBothIn view.now.words d.found (offered_at (state_in view.now.words) time.at.0) }
-    ensures { PickedIn view.now.words result (later_fitting (state_in view.now.words) time.at.0 (delays_of d)) }
+    requires delays_here { delays_of d ≡ delays_at (state_in view.now) time.at.0 }
+    requires head_here { PeekedBothIn view.now d.found (offered_at (state_in view.now) time.at.0) }
+    ensures { PickedIn view.now result (later_fitting (state_in view.now) time.at.0 (delays_of d)) }
 {
     if event_first(d) {
         return event_candidate(d.found);
@@ -114,7 +113,7 @@ fn later_candidate(view: &View, d: Delays, time: Time) -> Option<Candidate>
 
 // What a round takes up.
 pub fn candidate(view: &View, time: Time) -> Option<Candidate>
-    ensures { TakenUpIn view.now.words time.at.0 result (candidate_at (state_in view.now.words) time.at.0) }
+    ensures { TakenUpIn view.now time.at.0 result (candidate_at (state_in view.now) time.at.0) }
 {
     let d = queue_peek::delays(view, time);
     if aggregate_first(d) {

@@ -29,7 +29,7 @@ fn base_fits(side: &SideView) -> bool
 
 // The sums of every round: the round total, and both base heads plus their side's sum.
 pub fn always_fits(view: &View) -> bool
-    ensures { result ≡ fits (always_sums (state_in view.now.words)) }
+    ensures { result ≡ fits (always_sums (state_in view.now)) }
 {
     view.words.header[header::ROUNDS] < Moment::LIMIT
         && base_fits(&view.side(true))

@@ -21,7 +21,7 @@ use Rattle.queue.specs.declared.header.Queue.{Queue}
 use Rattle.queue.specs.Queues.{queue_of}
 use Rattle.queue.specs.Views.{moment_no, state_in, side_in, side_at}
 use Rattle.queue.specs.declared.view.SideView.{SideView}
-use Rattle.queue.specs.declared.view.Words.{Words}
+use Rattle.queue.specs.declared.view.View.{View}
 use Rattle.queue.specs.Heads.{head_from, found_of, side_held, HeadOk, Peeked, PeekedIn}
 use Rattle.delay.specs.declared.Margins.{Margins}
 use Rattle.delay.specs.declared.Tested.{Tested}
@@ -120,7 +120,7 @@ dropped_as p e = record { is = e; number = λ x q. absurd (let z : ◌≡◌ {A 
 replaced_one : (v x : Replaced) → Replaces v ≡ Replaces x → v ≡ x
 replaced_one v x e = cc
 
-module _ (w : Words) (e : SimEvent) (now : ℕ) where
+module _ (w : View) (e : SimEvent) (now : ℕ) where
   abbrev held : State
   held = state_in w
 
@@ -131,9 +131,9 @@ module _ (w : Words) (e : SimEvent) (now : ℕ) where
   unfolding padding_plan
   plan_own r = own_as _ (sym (ap (λ t. if t then plan_replacing held now (padded_of e) (waiting_head own_side.block_bypassable own_side) else own) r))
 
-  -- v is the event's side of these words, and f its first packet that waits
-  module _ (r : e.replace ≡ true) (t : Bool) (et : t ≡ own_side.block_bypassable) (v : SideView) (ev : v.view.words ≡ w) (ec : v.client ≡ e.client)
-      (f : Option HeadFound) (q : PeekedIn v.view.words v.client f (waiting_head t (side_at v))) where
+  -- v is the event's side of this view, and f its first packet that waits
+  module _ (r : e.replace ≡ true) (t : Bool) (et : t ≡ own_side.block_bypassable) (v : SideView) (ev : v.view ≡ w) (ec : v.client ≡ e.client)
+      (f : Option HeadFound) (q : PeekedIn v.view v.client f (waiting_head t (side_at v))) where
     p : PeekedIn w e.client f (waiting_head t own_side)
     p = rw (ev, ec) at q
 
@@ -175,8 +175,8 @@ module _ (w : Words) (e : SimEvent) (now : ℕ) where
           taken : TakenAs x own_side now y
           taken = rw (ev, ec) at tv
 
-          ok : HeadOk w.header.now w.records.now e.client y
-          ok = stands w.header.now w.records.now e.client t f y ef p
+          ok : HeadOk w.words.header.now w.records.now e.client y
+          ok = stands w.words.header.now w.records.now e.client t f y ef p
 
           side_is : without own_side y.queue ≡ side (lift_event held (head_from y)) (side_of y.event.client)
           side_is = ap (λ c. without (side_in w c) y.queue) (sym ok.side) ∙ sym (lifted_is held (head_from y) y.queue refl)

@@ -26,7 +26,7 @@ use Rattle.event.specs.Values.{event_value}
 use Rattle.queue.specs.Heads.{side_held}
 use Rattle.queue.specs.Views.{moment_no, state_in, side_at}
 use Rattle.queue.specs.declared.view.SideView.{SideView}
-use Rattle.queue.specs.declared.view.Words.{Words}
+use Rattle.queue.specs.declared.view.View.{View}
 use Rattle.delay.specs.declared.Margins.{Margins}
 use Rattle.delay.specs.declared.Asked.{Asked}
 use Rattle.delay.specs.declared.Tested.{Tested}
@@ -65,17 +65,17 @@ other_side false = refl
 word_at : (h : List ℕ) (i : ℕ) → i < 24 → get_or h (0 + i) 0 ≡ bank 0 24 h i
 word_at h i l = sym (bank_at 0 24 h i l)
 
--- v is the client's side of the words w
-module _ (w : Words) (c : Bool) (v : SideView) (ew : v.view.words ≡ w) (ec : v.client ≡ true) where
-  pub link_as : (d n r : Span) (sum : Sum) (rate : Option ℕ) → d.length.0 ≡ (state_in w).settings.network_delay → ((rs : List ℕ) → n.length.0 ≡ (state_from w.header.now rs).settings.window)
-      → RatedAs rate (rate_of (unless_zero (get_or w.header.now 1 0)) (unless_zero (get_or w.header.now 2 0))) → sum.length.0 ≡ (side_at v).sum
-      → ((rs : List ℕ) → r.length.0 ≡ (side_held w.header.now rs (not c)).fixed.reporting_delay)
+-- v is the client's side of the view w
+module _ (w : View) (c : Bool) (v : SideView) (ew : v.view ≡ w) (ec : v.client ≡ true) where
+  pub link_as : (d n r : Span) (sum : Sum) (rate : Option ℕ) → d.length.0 ≡ (state_in w).settings.network_delay → ((rs : List ℕ) → n.length.0 ≡ (state_from w.words.header.now rs).settings.window)
+      → RatedAs rate (rate_of (unless_zero (get_or w.words.header.now 1 0)) (unless_zero (get_or w.words.header.now 2 0))) → sum.length.0 ≡ (side_at v).sum
+      → ((rs : List ℕ) → r.length.0 ≡ (side_held w.words.header.now rs (not c)).fixed.reporting_delay)
       → LinkAs (record { delay = d; window = n; rate = rate; sum = sum; reporting = r }) (state_in w) (side_of c)
   unfolding state_from
   link_as d n r sum rate ed en q es er = record {
     delay = ed;
     window = en w.records.now;
-    rate = q.is ∙ ap₂ (λ a b. rate_of (unless_zero a) (unless_zero b)) (word_at w.header.now 1 (lit< tt)) (word_at w.header.now 2 (lit< tt));
+    rate = q.is ∙ ap₂ (λ a b. rate_of (unless_zero a) (unless_zero b)) (word_at w.words.header.now 1 (lit< tt)) (word_at w.words.header.now 2 (lit< tt));
     sum = rw (ew, ec) at es;
     reporting = er w.records.now ∙ ap (λ z. (side (state_in w) z).fixed.reporting_delay) (other_side c);
     above = q.above;

@@ -21,7 +21,7 @@ pub struct Lag {
 
 // The network delay.
 pub fn network_delay(view: &View) -> Span
-    ensures { result.length.0 ≡ (state_in view.now.words).settings.network_delay }
+    ensures { result.length.0 ≡ (state_in view.now).settings.network_delay }
 {
     view.words.network_delay()
 }

@@ -46,7 +46,7 @@ fn replacement(side: &SideView, h: Head, time: Moment) -> Replaced
 
 // What the step is to do. No block is needed.
 pub fn plan(view: &View, e: SimEvent, time: Moment) -> Padding
-    ensures { PaddingAs result (padding_plan (state_in view.now.words) time.0 (padded_of e)) }
+    ensures { PaddingAs result (padding_plan (state_in view.now) time.0 (padded_of e)) }
 {
     if !e.replace {
         return Padding::Own;

@@ -35,7 +35,7 @@ pub struct Link {
 }
 
 fn link_of(side: &SideView) -> Link
-    ensures { LinkAs result (state_in side.now.view.words) (side_of side.now.client) }
+    ensures { LinkAs result (state_in side.now.view) (side_of side.now.client) }
 {
     let words = side.view.words;
     Link {
@@ -106,9 +106,9 @@ fn arrival(e: SimEvent, time: Moment, network: Length, reporting: Span) -> SimEv
 
 // What the step is to do.
 pub fn plan(view: &View, e: SimEvent, time: Moment) -> Tunnel
-    requires few { length view.now.words.records.now ≤ 262140 }
+    requires few { length view.now.records.now ≤ 262140 }
     requires sendable { Sendable e time.0 }
-    ensures { tunnel_of result ≡ tunnel_plan (state_in view.now.words) time.0 (sent_of e) }
+    ensures { tunnel_of result ≡ tunnel_plan (state_in view.now) time.0 (sent_of e) }
 {
     let side = view.side(e.client);
     let link = link_of(&side);

@@ -58,7 +58,7 @@ pub fn extra(window: Span, count: u64, rate: Option<u64>) -> Length
 
 // The window after a new stamp: what goes, and the delay that it adds.
 pub fn fill(side: &SideView, time: Moment, window: Span, rate: Option<u64>) -> Filled
-    requires few { length side.now.view.words.records.now ≤ 262140 }
+    requires few { length side.now.view.records.now ≤ 262140 }
     requires rate_above { Above (limit_of rate) }
     ensures { FilledAs result window.length.0 time.0 (limit_of rate) (side_at side.now).stamps }
 {

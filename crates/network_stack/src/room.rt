@@ -11,7 +11,7 @@ use queue::{View, header};
 
 // The records kept in reserve.
 fn reserved(view: &View) -> u64
-    ensures { (result ≡ reserved_of (state_in view.now.words)) × (result ≤ 166) }
+    ensures { (result ≡ reserved_of (state_in view.now)) × (result ≤ 166) }
 {
     accept::header::reserved(view.words.header)
 }

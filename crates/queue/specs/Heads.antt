@@ -17,7 +17,7 @@ use Rattle.queue.specs.declared.header.Queue.{Queue}
 use Rattle.queue.specs.declared.header.Queue.TheVariants.{Base, Blocking, Bypassable, Internal}
 use Rattle.queue.specs.declared.peek.Head.{Head}
 use Rattle.queue.specs.declared.peek.Key.{Key}
-use Rattle.queue.specs.declared.view.Words.{Words}
+use Rattle.queue.specs.declared.view.View.{View}
 use Rattle.queue.specs.Queues.{queue_no, queue_of}
 
 -- ---- decoding
@@ -109,11 +109,11 @@ pub record PeekedBoth (h rs : List ℕ) (f : Option Head) (o : RulesOption Rules
   pub stands : StandsOn h rs f
 
 -- the same of the words in view
-abbrev pub PeekedIn : Words → Bool → Option Head → RulesOption RulesHead → Type 0
-PeekedIn v client f o = Peeked v.header.now v.records.now client f o
+abbrev pub PeekedIn : View → Bool → Option Head → RulesOption RulesHead → Type 0
+PeekedIn v client f o = Peeked v.words.header.now v.records.now client f o
 
-abbrev pub PeekedBothIn : Words → Option Head → RulesOption RulesHead → Type 0
-PeekedBothIn v f o = PeekedBoth v.header.now v.records.now f o
+abbrev pub PeekedBothIn : View → Option Head → RulesOption RulesHead → Type 0
+PeekedBothIn v f o = PeekedBoth v.words.header.now v.records.now f o
 
 -- the first of two, unless the second is strictly before it
 abbrev pub first_in : {A : Type 0} → (A → A → Bool) → Option A → Option A → Option A

@@ -41,7 +41,7 @@ impl SideView<'_> {
 
     // The head of a queue.
     fn head_of(&self, of: Queue) -> Option<Head>
-        ensures { PeekedIn self.now.view.words self.now.client result (chain_head of (side_at self.now)) }
+        ensures { PeekedIn self.now.view self.now.client result (chain_head of (side_at self.now)) }
     {
         let first = self.view.head(of.chain(self.client))?;
         let event = first.event(self.client);
@@ -148,7 +148,7 @@ impl SideView<'_> {
 
     // The head of the queue that a key names, read whole.
     fn keyed(&self, key: Option<Key>) -> Option<Head>
-        ensures { PeekedIn self.now.view.words self.now.client result (key_head key (side_at self.now)) }
+        ensures { PeekedIn self.now.view self.now.client result (key_head key (side_at self.now)) }
     {
         self.head_of(key?.queue)
     }
@@ -171,7 +171,7 @@ fn server_sooner(client: Option<Key>, server: Option<Key>, time: Moment) -> bool
 
 // `SimQueue::peek`: the client's on a tie in delay and rank.
 pub fn peek(view: &View, time: Moment) -> Option<Head>
-    ensures { PeekedBothIn view.now.words result (queue_head (state_in view.now.words) time.0) }
+    ensures { PeekedBothIn view.now result (queue_head (state_in view.now) time.0) }
 {
     let client = view.side(true);
     let server = view.side(false);
@@ -186,7 +186,7 @@ pub fn peek(view: &View, time: Moment) -> Option<Head>
 impl SideView<'_> {
     // `peek_blocking`: the first waiting packet; behind a bypassable block the bypassable queue does not wait.
     pub fn peek_blocking(&self, bypassable: bool) -> Option<Head>
-        ensures { PeekedIn self.now.view.words self.now.client result (waiting_head bypassable (side_at self.now)) }
+        ensures { PeekedIn self.now.view self.now.client result (waiting_head bypassable (side_at self.now)) }
     {
         let blocking = self.head_of(Queue::Blocking);
         if bypassable {
@@ -198,7 +198,7 @@ impl SideView<'_> {
 
     // `peek_non_blocking`: what a block does not hold back; bypassable is weighed against base by the raw moment.
     pub fn peek_non_blocking(&self, bypassable: bool) -> Option<Head>
-        ensures { PeekedIn self.now.view.words self.now.client result (passing_head bypassable (side_at self.now)) }
+        ensures { PeekedIn self.now.view self.now.client result (passing_head bypassable (side_at self.now)) }
     {
         let base = self.head_of(Queue::Base);
         let internal = self.head_of(Queue::Internal);

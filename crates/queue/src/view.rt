@@ -15,22 +15,20 @@ use moment::{Length, Moment, Span, Sum};
 use queue_event::chain::{Entry, Linked};
 use queue_event::read::Record;
 
-// The words that are read as a state: a header, and the records after it.
+// The words that are read as a state's header.
 #[derive(Clone, Copy)]
 pub struct Words<'a> {
     pub header: &'a [u64; 256],
-    pub records: &'a [u64],
 }
 
 impl<'a> Words<'a> {
     // Of a block with a header.
     pub fn of(block: &'a [u64]) -> Words<'a>
         requires { 256 ≤ length block.now }
-        ensures header { result.header.now ≡ take 256 block.now }
-        ensures records { result.records.now ≡ drop 256 block.now }
+        ensures { result.header.now ≡ take 256 block.now }
     {
-        let (header, records) = block.split_first_chunk().unwrap();
-        Words { header, records }
+        let (header, _) = block.split_first_chunk().unwrap();
+        Words { header }
     }
 }
 
@@ -56,11 +54,11 @@ impl Words<'_> {
 }
 
 impl Words<'_> {
-    ghost use Rattle.std.specs.Prelude.{ℕ, List, ◌^◌};
+    ghost use Rattle.std.specs.Prelude.{ℕ, List, [], ◌^◌};
     ghost use Rattle.rules.specs.Limits.{duration_limit};
     ghost use Rattle.layout.specs.Header.{Limited};
     ghost use Rattle.queue.specs.Heads.{side_held};
-    ghost use Rattle.queue.specs.Views.{moment_no, side_in};
+    ghost use Rattle.queue.specs.Views.{moment_no};
 
     // When the side's block ends, even a past one.
     pub fn block_end(&self, client: bool) -> Option<Moment>
@@ -92,7 +90,7 @@ impl Words<'_> {
     }
 
     pub fn both_delays(&self, client: bool) -> Length
-        requires { (side_in self.now client).fixed.action_delay + (side_in self.now client).fixed.reporting_delay < 2 ^ 64 }
+        requires { (side_held self.now.header.now [] client).fixed.action_delay + (side_held self.now.header.now [] client).fixed.reporting_delay < 2 ^ 64 }
         ensures is { (rs : List ℕ) → result.0 ≡ (side_held self.now.header.now rs client).fixed.action_delay + (side_held self.now.header.now rs client).fixed.reporting_delay }
         ensures small { Limited self.now.header.now → result.0 ≤ duration_limit + duration_limit }
     {
@@ -165,11 +163,12 @@ impl Words<'_> {
     }
 }
 
-// The words of an accepted state.
+// The words of an accepted state: its header, and the records after it.
 #[derive(Clone, Copy)]
 pub struct View<'a> {
     pub words: Words<'a>,
-    pub ghost good: { Good words.header.now words.records.now } by { Good-prop words.header.now words.records.now },
+    pub records: &'a [u64],
+    pub ghost good: { Good words.header.now records.now } by { Good-prop words.header.now records.now },
 }
 
 impl<'a> View<'a> {
@@ -178,23 +177,25 @@ impl<'a> View<'a> {
     pub fn of(block: &'a [u64]) -> View<'a>
         requires { Accepted block.now }
         ensures header { result.words.header.now ≡ take 256 block.now }
-        ensures records { result.words.records.now ≡ drop 256 block.now }
+        ensures records { result.records.now ≡ drop 256 block.now }
     {
+        let (header, records) = block.split_first_chunk().unwrap();
         View {
-            words: Words::of(block),
+            words: Words { header },
+            records,
         }
     }
 
     // The records of chain k.
     pub fn chain(&self, k: usize) -> Linked<'a>
         requires { k < 12 }
-        ensures records { result.records.now ≡ self.now.words.records.now }
+        ensures records { result.records.now ≡ self.now.records.now }
         ensures head { result.chain.head ≡ head_of self.now.words.header.now k }
         ensures count { result.chain.count ≡ count_of self.now.words.header.now k }
-        ensures all { left result ≡ chain_at self.now.words.header.now self.now.words.records.now k }
+        ensures all { left result ≡ chain_at self.now.words.header.now self.now.records.now k }
     {
         Linked {
-            records: self.words.records,
+            records: self.records,
             chain: self.words.entry(k),
         }
     }
@@ -202,14 +203,14 @@ impl<'a> View<'a> {
     // The first of them, if there is one.
     pub fn head(&self, k: usize) -> Option<Record<'a>>
         requires { k < 12 }
-        ensures { FirstOf self.now.words.records.now (count_of self.now.words.header.now k) (head_of self.now.words.header.now k) result }
+        ensures { FirstOf self.now.records.now (count_of self.now.words.header.now k) (head_of self.now.words.header.now k) result }
     {
         self.chain(k).first()
     }
 
     // A side of it.
     pub fn side(&self, client: bool) -> SideView<'a>
-        ensures words { result.view.words ≡ self.now.words }
+        ensures view { result.view ≡ self.now }
         ensures client { result.client ≡ client }
     {
         SideView {

@@ -68,7 +68,7 @@ impl Delays {
     // n: the first aggregate since the time.
     #[tactic(auto, using(crate::proofs::FiveLaws::n_absent, crate::proofs::FiveLaws::n_filled))]
     pub fn peek_aggregate_delay(mut self, view: &View, time: Moment) -> Self
-        ensures { (delays_of result ≡ with_n (delays_of self) (aggregate_delay (state_in view.now.words) time.0)) × (result.found ≡ self.found) }
+        ensures { (delays_of result ≡ with_n (delays_of self) (aggregate_delay (state_in view.now) time.0)) × (result.found ≡ self.found) }
     {
         self.n = view
             .head(header::AGGREGATES)
@@ -89,7 +89,7 @@ impl Delays {
 
     // q: the head of the queues, which is kept for the candidate.
     pub fn peek_queue(mut self, view: &View, time: Time) -> Self
-        ensures { (delays_of result ≡ with_q (delays_of self) (head_delay time.at.0 (peek_queue (state_in view.now.words) time.at.0 (least_of (delays_of self))))) × PeekedBothIn view.now.words result.found (peek_queue (state_in view.now.words) time.at.0 (least_of (delays_of self))) }
+        ensures { (delays_of result ≡ with_q (delays_of self) (head_delay time.at.0 (peek_queue (state_in view.now) time.at.0 (least_of (delays_of self))))) × PeekedBothIn view.now result.found (peek_queue (state_in view.now) time.at.0 (least_of (delays_of self))) }
     {
         let found = queues::offered(view, time, self.least());
         self.q = queues::head_delay(found, time.at);

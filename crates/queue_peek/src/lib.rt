@@ -24,7 +24,7 @@ pub use slots::Slotted;
 
 // All five, and the head that the queues offer.
 pub fn delays(view: &View, time: Time) -> Delays
-    ensures { (delays_of result ≡ delays_at (state_in view.now.words) time.at.0) × PeekedBothIn view.now.words result.found (offered_at (state_in view.now.words) time.at.0) }
+    ensures { (delays_of result ≡ delays_at (state_in view.now) time.at.0) × PeekedBothIn view.now result.found (offered_at (state_in view.now) time.at.0) }
 {
     let slotted = Slotted::of(view);
     Delays::none()

@@ -24,7 +24,7 @@ pub fn head_delay(found: Option<Head>, time: Moment) -> Option<Length>
 // Whether a packet is held back by its side's block.
 fn held_back(view: &View, event: SimEvent) -> bool
     requires { event.kind.0 ≤ 9 }
-    ensures { result ≡ held_back (side_in view.now.words event.client) (event_value event) }
+    ensures { result ≡ held_back (side_in view.now event.client) (event_value event) }
 {
     if event.kind.0 != Kind::TUNNEL_SENT {
         return false;
@@ -65,7 +65,7 @@ fn not_before(waiting: Option<Head>, end: Moment) -> Option<Head>
 
 // The side value of `peek_queue_earliest_side`.
 fn earliest_of_side(side: &SideView, time: Time) -> Option<Head>
-    ensures { PeekedIn side.now.view.words side.now.client result (earliest_of_side time.at.0 (side_at side.now)) }
+    ensures { PeekedIn side.now.view side.now.client result (earliest_of_side time.at.0 (side_at side.now)) }
 {
     let words = side.view.words;
     let flag = words.is_bypassable(side.client);
@@ -77,7 +77,7 @@ fn earliest_of_side(side: &SideView, time: Time) -> Option<Head>
 
 // `peek_queue_earliest_side`: the smaller side value, the client's on a tie.
 fn peek_queue_earliest_side(view: &View, time: Time) -> Option<Head>
-    ensures { PeekedBothIn view.now.words result (earliest_blocked (state_in view.now.words) time.at.0) }
+    ensures { PeekedBothIn view.now result (earliest_blocked (state_in view.now) time.at.0) }
 {
     let c = earliest_of_side(&view.side(true), time);
     let s = earliest_of_side(&view.side(false), time);
@@ -90,7 +90,7 @@ fn peek_queue_earliest_side(view: &View, time: Time) -> Option<Head>
 
 // `peek_queue`: what the queues offer, and nothing that is later than the other four delays.
 pub fn offered(view: &View, time: Time, least: Option<Length>) -> Option<Head>
-    ensures { PeekedBothIn view.now.words result (peek_queue (state_in view.now.words) time.at.0 (delay_of least)) }
+    ensures { PeekedBothIn view.now result (peek_queue (state_in view.now) time.at.0 (delay_of least)) }
 {
     let found = peek::peek(view, time.at);
     let h = found.filter(|h| order::not_later(Some(h.moment.since(time.at)), least))?;

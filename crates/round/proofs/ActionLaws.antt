@@ -1,15 +1,15 @@
 -- A timer and an action taken: the slot cleared, the block begun, and the event queued. Assumes nothing.
 use Prim.Native.Nat.{ℕ, ◌+◌, ◌<◌, ◌^◌}
-use mathlib.Core.Path.{◌≡◌, refl, ap, subst, ◌∙◌}
+use mathlib.Core.Path.{◌≡◌, refl, sym, ap, subst, ◌∙◌}
 use mathlib.Core.Bool.{Bool, true, false, true≢false}
-use mathlib.Core.List.{List}
+use mathlib.Core.List.{List, []}
 use mathlib.Core.Option.{some}
 use native.Mathlib.Omega.{arith}
 use lib.ListN.{length, take, drop}
 use Rattle.std.specs.Prelude.{if◌then◌else◌}
-use Rattle.queue.specs.Views.{side_in}
 use Rattle.queue.specs.Heads.{side_held}
 use Rattle.queue.specs.declared.view.Words.{Words}
+use Rattle.queue.proofs.ViewLaws.{action_held, reporting_held}
 use Rattle.rules.specs.Basics.{Side, client, server}
 use Rattle.rules.specs.State.{Action, BlockOutgoing, SideState, State, side, with_side, with_block}
 use Rattle.rules.specs.Queueing.{push_event}
@@ -90,12 +90,15 @@ module _ (w : List ℕ) (p : Planned) (due : BeginDue w p) (w₁ : List ℕ) (c 
   reporting_same = ap (λ (x : SideState). x.fixed.reporting_delay) side_after_lem ∙ ap (λ f. f.reporting_delay) (acted_fixed (side (state_of w) (side_of p.slot.client)) (action_value p.action))
 
   -- v holds the words in view
-  module _ (v : Words) (eh : v.header.now ≡ take 256 w₁) (er : v.records.now ≡ drop 256 w₁) where
-    pub delays_fit : (side_in v p.slot.client).fixed.action_delay + (side_in v p.slot.client).fixed.reporting_delay < 2 ^ 64
-    delays_fit = rw (eh, er) (omega (arith, due.begin, action_same, reporting_same))
+  module _ (v : Words) (eh : v.header.now ≡ take 256 w₁) where
+    pub delays_fit : (side_held v.header.now [] p.slot.client).fixed.action_delay + (side_held v.header.now [] p.slot.client).fixed.reporting_delay < 2 ^ 64
+    delays_fit =
+        let action = action_held (take 256 w₁) [] p.slot.client ∙ sym (action_held (take 256 w₁) (drop 256 w₁) p.slot.client) in
+        let reporting = reporting_held (take 256 w₁) [] p.slot.client ∙ sym (reporting_held (take 256 w₁) (drop 256 w₁) p.slot.client) in
+        rw (eh, action, reporting) (omega (arith, due.begin, action_same, reporting_same))
 
   module _
-      (v : Words) (eh : v.header.now ≡ take 256 w₁) (er : v.records.now ≡ drop 256 w₁) (d : Length)
+      (v : Words) (eh : v.header.now ≡ take 256 w₁) (d : Length)
       (seen : (rs : List ℕ) → d.0 ≡ (side_held v.header.now rs p.slot.client).fixed.action_delay + (side_held v.header.now rs p.slot.client).fixed.reporting_delay) where
     ed : d.0 ≡ (side (state_of w₁) (side_of p.slot.client)).fixed.action_delay + (side (state_of w₁) (side_of p.slot.client)).fixed.reporting_delay
     ed = let e = rw eh at seen in e (drop 256 w₁)
@@ -103,9 +106,9 @@ module _ (w : List ℕ) (p : Planned) (due : BeginDue w p) (w₁ : List ℕ) (c 
     pub begin_fits : p.action.moment.0 + d.0 < 2 ^ 64
     begin_fits = omega (arith, due.begin, action_same, reporting_same, ed)
 
-    module _ (b : Bool) (flag : b ≡ (side_in v p.slot.client).block_bypassable) (r : SimEvent) (shows : Shows r (begin_of (planned_slot p) (action_value p.action) d.0 b)) where
+    module _ (b : Bool) (flag : (rs : List ℕ) → b ≡ (side_held v.header.now rs p.slot.client).block_bypassable) (r : SimEvent) (shows : Shows r (begin_of (planned_slot p) (action_value p.action) d.0 b)) where
       flag_is : b ≡ (side (state_of w₁) (side_of p.slot.client)).block_bypassable
-      flag_is = rw (eh, er) at flag
+      flag_is = let e = rw eh at flag in e (drop 256 w₁)
 
       event_is : begin_of (planned_slot p) (action_value p.action) d.0 b ≡ acted_event BlockOutgoing side_after (planned_slot p) (action_value p.action)
       event_is = λ i.

@@ -24,6 +24,7 @@ use Rattle.laws.specs.Sound.{Sound}
 use Rattle.laws.specs.SoundRound.{round_sound}
 use Rattle.laws.specs.Steady.{act_steady}
 use Rattle.layout.specs.Layout.{state_from, state_of}
+use Rattle.queue.specs.declared.view.View.{View}
 use Rattle.queue.specs.declared.view.Words.{Words}
 use Rattle.queue.specs.Views.{state_in}
 use Rattle.candidate.specs.Candidates.{candidate_of, next_of, NextStands, NextReckoned, Stands, Reckoned}
@@ -133,7 +134,7 @@ module _ (w : List ℕ) (now k : ℕ) (time : now ≤ moment_limit) (may : MayRo
       record { came = q; accepted = shaped_accepted left q.words.shaped (subst⁻¹ HeldAccepted q.words.state (round_accepted (state_of w) now (holds_accepted w may.accepted) time)) }
 
   -- v holds the words in view
-  module _ (v : Words) (eh : v.header.now ≡ take 256 w) (er : v.records.now ≡ drop 256 w) (b : Bool) (seen : b ≡ fits (always_sums (state_in v))) where
+  module _ (v : View) (eh : v.words.header.now ≡ take 256 w) (er : v.records.now ≡ drop 256 w) (b : Bool) (seen : b ≡ fits (always_sums (state_in v))) where
     eb : b ≡ fits (always_sums (state_of w))
     eb = rw (eh, er) at seen
 
@@ -172,7 +173,7 @@ module _ (w : List ℕ) (now k : ℕ) (time : now ≤ moment_limit) (may : MayRo
           unfolding NextStands
           found_stands = subst (NextStands (take 256 w) (drop 256 w)) e took.picked.stands
 
-          pub stands_seen : (s : Words) → s ≡ v → Stands s.header.now (drop 256 w) c
+          pub stands_seen : (s : Words) → s ≡ v.words → Stands s.header.now (drop 256 w) c
           stands_seen s es = rw (es, eh) found_stands
 
           found_reckoned : Reckoned (take 256 w) (drop 256 w) now c
@@ -180,7 +181,7 @@ module _ (w : List ℕ) (now k : ℕ) (time : now ≤ moment_limit) (may : MayRo
           found_reckoned = subst (NextReckoned (take 256 w) (drop 256 w) now) e took.reckoned
 
           module _
-              (f : Bool) (s : Words) (es : s ≡ v)
+              (f : Bool) (s : Words) (es : s ≡ v.words)
               (told : (rs : List ℕ) → Reckoned s.header.now rs now c → f ≡ fits (candidate_sums (state_from s.header.now rs) now (candidate_of s.header.now c))) where
             ef : f ≡ fits (candidate_sums (state_of w) now (candidate_of (take 256 w) c))
             ef = let t = rw (es, eh) at told in t (drop 256 w) found_reckoned

@@ -8,5 +8,5 @@ returns-in_err-k c = rw c.from_residual.ensures (search (block_none, c.next_bloc
 pub returns : goal.returns
 returns c =
     let x = c.side.ensures in
-    let by = rw (x.words, x.client) at c.held_up-by.ensures in
+    let by = rw (x.view, x.client) at c.held_up-by.ensures in
     search (block_some, by, c.next_block.ensures, c.in_ok-k.was)

@@ -8,4 +8,4 @@ use Rattle.candidate.proofs.PickLaws.{event_as}
 use Rattle.candidate.proofs.first.event_candidate.Goals as goal
 
 pub returns : goal.returns
-returns c = let e : c.map.result ≡ option_map (λ x. Event x) c.args.found = grind (arith, common_steps) in λ v o p. event_as _ _ e _ _ o p
+returns c = let e : c.map.result ≡ option_map (λ x. Event x) c.args.found = grind (arith, common_steps) in λ h rs o p. event_as _ _ e _ _ o p

@@ -5,5 +5,5 @@ use Rattle.network.proofs.tunnel.plan.Goals as goal
 pub returns : goal.returns
 returns c =
     let at = c.side-side.ensures in
-    planned _ _ c.args.e _ _ (rw (at.words, at.client) at c.link_of-link.ensures) (rw (at.words, at.client) at c.fill-filled.ensures) _ c.arrival-received.result _ (rw (at.words, at.client) at c.test-tested.ensures)
+    planned _ _ c.args.e _ _ (rw (at.view, at.client) at c.link_of-link.ensures) (rw (at.view, at.client) at c.fill-filled.ensures) _ c.arrival-received.result _ (rw (at.view, at.client) at c.test-tested.ensures)
     c.plus.ensures c.arrival-received.ensures

@@ -6,14 +6,14 @@ pub returns-then-not_later : goal.returns-then-not_later
 returns-then-not_later c =
     let x = c.side.ensures in
     let y = c.side-2.ensures in
-    let client = rw (x.words, x.client) at c.earliest_of_side-c.ensures in
-    let server = rw (y.words, y.client) at c.earliest_of_side-s.ensures in
+    let client = rw (x.view, x.client) at c.earliest_of_side-c.ensures in
+    let server = rw (y.view, y.client) at c.earliest_of_side-s.ensures in
     search (earliest_client, client, server)
 
 pub returns-else-not_later : goal.returns-else-not_later
 returns-else-not_later c =
     let x = c.side.ensures in
     let y = c.side-2.ensures in
-    let client = rw (x.words, x.client) at c.earliest_of_side-c.ensures in
-    let server = rw (y.words, y.client) at c.earliest_of_side-s.ensures in
+    let client = rw (x.view, x.client) at c.earliest_of_side-c.ensures in
+    let server = rw (y.view, y.client) at c.earliest_of_side-s.ensures in
     search (earliest_server, client, server)

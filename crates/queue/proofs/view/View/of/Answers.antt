@@ -1,9 +1,8 @@
 -- `queue::view::View::of` meets its contract. Assumes nothing.
-use native.Mathlib.Omega.{arith}
 use Rattle.queue.proofs.view.View.of.Goals as goal
 
-pub of-requires : goal.of-requires
-of-requires c = omega (arith, c.requires.size.least)
-
 pub invariant_of-result : goal.invariant_of-result
-invariant_of-result c = record { good = rw (c.of.ensures.header, c.of.ensures.records) c.requires.good }
+invariant_of-result c = let parts = rw c.unwrap.ensures at c.split_first_chunk.ensures.cases in record { good = rw (parts.0, parts.1) c.requires.good }
+
+pub returns : goal.returns
+returns c = let parts = rw c.unwrap.ensures at c.split_first_chunk.ensures.cases in record { header = parts.0; records = parts.1 }

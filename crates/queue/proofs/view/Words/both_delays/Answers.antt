@@ -8,8 +8,7 @@ use Rattle.queue.proofs.view.Words.both_delays.Goals as goal
 
 pub plus-requires : goal.plus-requires
 plus-requires c =
-    let rs = c.args.self.now.records.now in
-    omega (arith, c.requires, c.action_delay.ensures rs, c.reporting_delay.ensures rs)
+    omega (arith, c.requires, c.action_delay.ensures [], c.reporting_delay.ensures [])
 
 pub returns-clause-is : goal.returns-clause-is
 returns-clause-is c = λ rs. c.plus.ensures ∙ ap₂ ◌+◌ (c.action_delay.ensures rs) (c.reporting_delay.ensures rs)

@@ -2,4 +2,4 @@
 use Rattle.queue.proofs.view.Words.of.Goals as goal
 
 pub returns : goal.returns
-returns c = let parts = rw c.unwrap.ensures at c.split_first_chunk.ensures.cases in record { header = parts.0; records = parts.1 }
+returns c = (rw c.unwrap.ensures at c.split_first_chunk.ensures.cases).0
