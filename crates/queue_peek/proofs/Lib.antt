@@ -1,3 +1,4 @@
+pub mod BeyondMachines
 pub mod BlockLaws
 pub mod DelayOrder
 pub mod FiveLaws

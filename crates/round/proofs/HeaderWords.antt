@@ -35,6 +35,12 @@ module _ (w : List ℕ) where
   sum_word client = sym (low 10 (omega arith))
   sum_word server = sym (low 11 (omega arith))
 
+  -- no proof of this crate uses it; docs/PORT.md names it
+  pub action_word_lem : (z : Side) → get_or w (4 + side_no z) 0 ≡ (side (state_of w) z).fixed.action_delay
+  unfolding state_from
+  action_word_lem client = sym (low 4 (omega arith))
+  action_word_lem server = sym (low 5 (omega arith))
+
   pub rounds_word : get_or w 17 0 ≡ total (state_of w)
   unfolding state_from
   rounds_word = sym (low 17 (omega arith))
