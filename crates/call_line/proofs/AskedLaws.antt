@@ -69,10 +69,14 @@ held_passed p k name kept len e (first_cr q is place i) =
 held_passed p k name kept len e (argument_cr q is place i) =
     absurd (i.some (no_letters k (λ z. cc) e))
 
+-- whatever letters are kept then, as many as there is place for
 pub asks_none :
-    (k : Kept) (name : List ℕ) (kept : List Argument) (r : Bool) → r ≡ passes_over k → r ≡ true → AsksFor k name kept passed_over name kept
-asks_none k name kept r is passes = λ p h.
-    (held_passed p k name kept h.sized.letters (sym is ∙ passes) h.held, holds_start name kept h.sized)
+    (k : Kept) (name : List ℕ) (kept : List Argument) (name' : List ℕ) (r : Bool) → (length name ≡ 24 → length name' ≡ 24)
+    → r ≡ passes_over k → r ≡ true → AsksFor k name kept passed_over name' kept
+asks_none k name kept name' r long is passes = λ p h. (
+  held_passed p k name kept h.sized.letters (sym is ∙ passes) h.held,
+  holds_start name' kept (record { letters = long h.sized.letters; many = h.sized.many }),
+)
 
 -- ---- a line that ends
 

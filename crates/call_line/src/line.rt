@@ -344,7 +344,8 @@ impl Line {
 
     // What the line asks for that ends here, if it is not passed over.
     pub fn asked(self, words: &mut Words) -> Result<Option<Asked>, BadLine>
-        ensures { AsksFor self words.old.name words.old.arguments (asks_of_line result) words.new.name words.new.arguments }
+        ensures asks { AsksFor self words.old.name words.old.arguments (asks_of_line result) words.new.name words.new.arguments }
+        ensures name { words.new.name ≡ words.old.name }
     {
         if self.passed_over() {
             return Ok(None);
