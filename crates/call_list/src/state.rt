@@ -106,6 +106,7 @@ impl<'a> State<'a> {
 
     pub fn open(&mut self, o: Opening) -> Answer
         ensures opens { OpensLent self.old.lent self.old.words.now (opening_of o) (answer_of result) self.new.words.now }
+        ensures lent { self.new.lent ≡ self.old.lent }
         ensures same_reference { self.new.words.ghost_name ≡ self.old.words.ghost_name }
     {
         self.known = false; // all are written
@@ -148,6 +149,7 @@ impl<'a> State<'a> {
 
     pub fn push(&mut self, e: SimEvent) -> Answer
         ensures on_lent { OnLent self.old.lent self.old.words.now (push (event_in e)) (answer_of result) self.new.words.now }
+        ensures lent { self.new.lent ≡ self.old.lent }
         ensures same_reference { self.new.words.ghost_name ≡ self.old.words.ghost_name }
     {
         self.tested()?;
@@ -156,6 +158,7 @@ impl<'a> State<'a> {
 
     pub fn set<H: Held>(&mut self, slot: Slot, held: H) -> Answer
         ensures on_lent { OnLent self.old.lent self.old.words.now (H.setting (slot_in slot.client slot.machine) held) (answer_of result) self.new.words.now }
+        ensures lent { self.new.lent ≡ self.old.lent }
         ensures same_reference { self.new.words.ghost_name ≡ self.old.words.ghost_name }
     {
         self.tested()?;
@@ -164,6 +167,7 @@ impl<'a> State<'a> {
 
     pub fn clear<H: Held>(&mut self, slot: Slot) -> Answer
         ensures on_lent { OnLent self.old.lent self.old.words.now (H.clearing (slot_in slot.client slot.machine)) (answer_of result) self.new.words.now }
+        ensures lent { self.new.lent ≡ self.old.lent }
         ensures same_reference { self.new.words.ghost_name ≡ self.old.words.ghost_name }
     {
         self.tested()?;
@@ -172,6 +176,7 @@ impl<'a> State<'a> {
 
     pub fn pick_next(&mut self, time: Moment) -> Choice
         ensures on_lent { OnLent self.old.lent self.old.words.now (pick_next time.0) (choice_of result) self.new.words.now }
+        ensures lent { self.new.lent ≡ self.old.lent }
         ensures same_reference { self.new.words.ghost_name ≡ self.old.words.ghost_name }
     {
         self.tested()?;
@@ -180,6 +185,7 @@ impl<'a> State<'a> {
 
     pub fn sim_network_stack(&mut self, time: Moment, e: SimEvent) -> Step
         ensures on_lent { OnLent self.old.lent self.old.words.now (sim_network_stack time.0 (event_in e)) (step_of result) self.new.words.now }
+        ensures lent { self.new.lent ≡ self.old.lent }
         ensures same_reference { self.new.words.ghost_name ≡ self.old.words.ghost_name }
     {
         self.tested()?;
