@@ -50,6 +50,7 @@ const NAMES: [(&[u8], Name); 17] = [
 
 // The line that these letters name, where they name one.
 // A table and no `match` over byte strings: that goes byte by byte, and 22 of its answers were open after six minutes.
+#[tactic(auto, using(crate::proofs::NameLaws::row_found))]
 pub(crate) fn named(letters: &[u8]) -> Option<Name>
     ensures { result ≡ name_of letters.now }
 {

@@ -3,15 +3,12 @@ use Prim.Native.Nat.{◌≤◌}
 use native.Mathlib.Omega.{arith}
 use mathlib.Core.Path.{refl}
 use Rattle.call_words.specs.Names.{named, named_slot, named_words, named_second}
-use Rattle.call_words.proofs.NameLaws.{row_found, row_passed, none_found}
+use Rattle.call_words.proofs.NameLaws.{row_passed, none_found}
 use Rattle.call_words.proofs.names.named.Goals as goal
 
 pub loop-row-init : goal.loop-row-init
 unfolding named named_slot named_words named_second
 loop-row-init c = refl
-
-pub returns-then-eq : goal.returns-then-eq
-returns-then-eq c = row_found _ _ _ _ c.loop-row.invariant _ _ c.loop-row-test.true c.eq.ensures c.if-eq.true
 
 pub loop-row-preserved : goal.loop-row-preserved
 loop-row-preserved c = row_passed _ _ _ _ c.loop-row.invariant _ _ c.loop-row-test.true c.eq.ensures c.if-eq.false
