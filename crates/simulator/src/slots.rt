@@ -243,3 +243,65 @@ pub fn clear<H: Held>(block: &mut [u64], slot: Slot) -> Answer
     admit::lent(block)?;
     clear_on::<H>(block, slot)
 }
+
+// ---- the calls by their names
+
+// A timer is set in accepted words, whatever the slot holds.
+pub fn set_timer_on(block: &mut [u64], client: bool, machine: u64, moment: Moment) -> Answer
+    requires { Accepted block.old }
+    ensures { Outcome block.old (set_timer (slot_in client machine) moment.0) (answer_of result) block.new }
+{
+    set_on(block, Slot { client, machine }, Timer(moment))
+}
+
+// A timer is set.
+pub fn set_timer(block: &mut [u64], client: bool, machine: u64, moment: Moment) -> Answer
+    ensures { Outcome block.old (set_timer (slot_in client machine) moment.0) (answer_of result) block.new }
+{
+    set(block, Slot { client, machine }, Timer(moment))
+}
+
+// A timer is cleared in accepted words; an empty slot stays as it is.
+pub fn clear_timer_on(block: &mut [u64], client: bool, machine: u64) -> Answer
+    requires { Accepted block.old }
+    ensures { Outcome block.old (clear_timer (slot_in client machine)) (answer_of result) block.new }
+{
+    clear_on::<Timer>(block, Slot { client, machine })
+}
+
+// A timer is cleared.
+pub fn clear_timer(block: &mut [u64], client: bool, machine: u64) -> Answer
+    ensures { Outcome block.old (clear_timer (slot_in client machine)) (answer_of result) block.new }
+{
+    clear::<Timer>(block, Slot { client, machine })
+}
+
+// An action is set in accepted words, whatever the slot holds.
+pub fn set_action_on(block: &mut [u64], client: bool, machine: u64, a: ScheduledAction) -> Answer
+    requires { Accepted block.old }
+    ensures { Outcome block.old (set_action (slot_in client machine) (action_in a)) (answer_of result) block.new }
+{
+    set_on(block, Slot { client, machine }, a)
+}
+
+// An action is set.
+pub fn set_action(block: &mut [u64], client: bool, machine: u64, a: ScheduledAction) -> Answer
+    ensures { Outcome block.old (set_action (slot_in client machine) (action_in a)) (answer_of result) block.new }
+{
+    set(block, Slot { client, machine }, a)
+}
+
+// An action is cleared in accepted words; an empty slot stays as it is.
+pub fn clear_action_on(block: &mut [u64], client: bool, machine: u64) -> Answer
+    requires { Accepted block.old }
+    ensures { Outcome block.old (clear_action (slot_in client machine)) (answer_of result) block.new }
+{
+    clear_on::<ScheduledAction>(block, Slot { client, machine })
+}
+
+// An action is cleared.
+pub fn clear_action(block: &mut [u64], client: bool, machine: u64) -> Answer
+    ensures { Outcome block.old (clear_action (slot_in client machine)) (answer_of result) block.new }
+{
+    clear::<ScheduledAction>(block, Slot { client, machine })
+}
