@@ -114,25 +114,13 @@ fn step_row(a: Step) -> [u64; 16]
 
 // ---- a row
 
-// A row that asks for a call or a turn: its twelve words, of which the first is its code.
+// What a call is handed: the twelve words of a row, whatever the first of them is.
 #[derive(Clone, Copy)]
-pub struct Row<'a> {
-    pub code: Code,
+pub struct Arguments<'a> {
     pub words: &'a [u64; 12],
-    pub ghost coded: { code_no code ≡ word_in words.now 0 },
 }
 
-impl<'a> Row<'a> {
-    // Of these words, unless they ask for nothing.
-    pub fn read(words: &'a [u64; 12]) -> Option<Row<'a>>
-        ensures { MatchOption result (is_row (word_in words.now 0) ≡ false) (λ r. r.words.now ≡ words.now) }
-    {
-        let code = Code::try_from(words[0]).ok()?;
-        Some(Row { code, words })
-    }
-}
-
-impl Row<'_> {
+impl Arguments<'_> {
     // The event whose eight words begin at word `at`.
     fn event(&self, at: usize) -> SimEvent
         requires { at ≤ 2 }
@@ -167,7 +155,7 @@ impl Row<'_> {
     }
 
     // The time of a choice, of a step and of a turn.
-    pub fn time(&self) -> Moment
+    fn time(&self) -> Moment
         ensures { result.0 ≡ word_in self.now.words.now 1 }
     {
         Moment(self.words[1])
@@ -215,7 +203,7 @@ impl Row<'_> {
         simulator::step::sim_network_stack_on(block, hints, self.event(2), self.time())
     }
 
-    // The call that it names, and its answer.
+    // The call of this code, and its answer. No word of theirs need be the code.
     pub fn call(&self, code: CallCode, block: &mut [u64], hints: &mut [u64; 12]) -> [u64; 16]
         requires { Accepted block.old }
         ensures { CallMade block.old (call_for (call_no code) (word_in self.now.words.now)) result block.new }
@@ -229,6 +217,41 @@ impl Row<'_> {
             CallCode::PickNext => choice_row(self.pick_next(block, hints)),
             CallCode::SimNetworkStack => step_row(self.sim_network_stack(block, hints)),
         }
+    }
+}
+
+// A row that asks for a call or a turn: its twelve words, of which the first is its code.
+#[derive(Clone, Copy)]
+pub struct Row<'a> {
+    pub code: Code,
+    pub words: &'a [u64; 12],
+    pub ghost coded: { code_no code ≡ word_in words.now 0 },
+}
+
+impl<'a> Row<'a> {
+    // Of these words, unless they ask for nothing.
+    pub fn read(words: &'a [u64; 12]) -> Option<Row<'a>>
+        ensures { MatchOption result (is_row (word_in words.now 0) ≡ false) (λ r. r.words.now ≡ words.now) }
+    {
+        let code = Code::try_from(words[0]).ok()?;
+        Some(Row { code, words })
+    }
+}
+
+impl Row<'_> {
+    // The time of a choice, of a step and of a turn.
+    pub fn time(&self) -> Moment
+        ensures { result.0 ≡ word_in self.now.words.now 1 }
+    {
+        Arguments { words: self.words }.time()
+    }
+
+    // The call that it names, and its answer.
+    pub fn call(&self, code: CallCode, block: &mut [u64], hints: &mut [u64; 12]) -> [u64; 16]
+        requires { Accepted block.old }
+        ensures { CallMade block.old (call_for (call_no code) (word_in self.now.words.now)) result block.new }
+    {
+        Arguments { words: self.words }.call(code, block, hints)
     }
 
     // Whether the list ends after it, whose answer is given.

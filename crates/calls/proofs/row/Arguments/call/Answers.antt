@@ -1,6 +1,6 @@
--- `calls::row::Row::call` meets its contract. Assumes nothing.
+-- `calls::row::Arguments::call` meets its contract. Assumes nothing.
 use Rattle.calls.proofs.RowLaws.{code_0, code_1, code_2, code_3, code_4, code_5, code_6}
-use Rattle.calls.proofs.row.Row.call.Goals as goal
+use Rattle.calls.proofs.row.Arguments.call.Goals as goal
 
 pub returns-in-Push : goal.returns-in-Push
 returns-in-Push c = search code_0
