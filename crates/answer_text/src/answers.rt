@@ -1,29 +1,31 @@
 // The answer of a call, as text: a line each.
 ghost use Rattle.std.specs.Prelude.{◌≡◌};
 
-use crate::text::{OrDash, Output, side};
+use crate::text::{OrDash, Output, flag, side};
 use event::SimEvent;
 use event::answer::{Answer, Choice, Refusal, Step};
 use std::fmt;
 
 // The event's eight words.
-#[derive(Clone, Copy)]
-pub(crate) struct Words(pub SimEvent);
-
-impl fmt::Display for Words {
-    fn fmt<W: fmt::Write>(&self, f: &mut fmt::Formatter<W>) -> fmt::Result {
-        let e = self.0;
-        write!(
-            f,
-            "{} {} {} {} ",
-            e.kind.0,
-            e.moment.0,
-            e.delay.0,
-            side(e.client)
-        )?;
-        let flags = [e.padding, e.bypass, e.replace].map(u64::from);
-        write!(f, "{} {} {} {}", flags[0], flags[1], flags[2], e.machine)
-    }
+// By `put` and `next`, here, in `show` and in `words`, and not by `Display`: a line of these took twice the time through a formatter (docs/DESIGN-PASS.md).
+pub(crate) fn put_event(out: &mut Output<'_>, e: SimEvent)
+    ensures same_reference { out.new.buffer.ghost_name ≡ out.old.buffer.ghost_name }
+{
+    out.next(e.kind.0);
+    out.next(e.moment.0);
+    out.next(e.delay.0);
+    let (padding, bypass, replace) = (flag(e.padding), flag(e.bypass), flag(e.replace));
+    out.put(&[
+        b' ',
+        side(e.client),
+        b' ',
+        padding,
+        b' ',
+        bypass,
+        b' ',
+        replace,
+    ]);
+    out.next(e.machine);
 }
 
 #[derive(Clone, Copy)]
@@ -63,7 +65,13 @@ pub fn told_choice(out: &mut Output<'_>, a: Choice)
 {
     match a {
         Ok(c) => match c.event {
-            Some(e) => writeln!(out, "event {} rounds {}", Words(e), c.rounds),
+            Some(e) => {
+                out.put(b"event");
+                put_event(out, e);
+                out.put(b" rounds");
+                out.next(c.rounds);
+                out.put(b"\n");
+            },
             None => writeln!(out, "nothing rounds {}", c.rounds),
         },
         Err(r) => writeln!(out, "{}", Refused(r)),
@@ -73,5 +81,7 @@ pub fn told_choice(out: &mut Output<'_>, a: Choice)
 pub fn bad_line(out: &mut Output<'_>, line_number: u64)
     ensures same_reference { out.new.buffer.ghost_name ≡ out.old.buffer.ghost_name }
 {
-    writeln!(out, "bad line {line_number}");
+    out.put(b"bad line");
+    out.next(line_number);
+    out.put(b"\n");
 }

@@ -1,7 +1,7 @@
 // The chains that `show` lists: queued events, stamps and aggregates, each chain from its head.
 ghost use Rattle.std.specs.Prelude.{◌≡◌};
 
-use crate::answers::Words;
+use crate::answers;
 use crate::text::{Output, side};
 use queue::{Queue, View, header};
 
@@ -10,13 +10,15 @@ fn put_events(out: &mut Output<'_>, view: &View, client: bool)
     ensures same_reference { out.new.buffer.ghost_name ≡ out.old.buffer.ghost_name }
 {
     for (of, name) in [
-        (Queue::Base, "base"),
-        (Queue::Blocking, "blocking"),
-        (Queue::Bypassable, "bypassable"),
-        (Queue::Internal, "internal"),
+        (Queue::Base, &b"event base"[..]),
+        (Queue::Blocking, b"event blocking"),
+        (Queue::Bypassable, b"event bypassable"),
+        (Queue::Internal, b"event internal"),
     ] {
         for r in view.chain(of.chain(client)) {
-            writeln!(out, "event {name} {}", Words(r.event(client)));
+            out.put(name);
+            answers::put_event(out, r.event(client));
+            out.put(b"\n");
         }
     }
 }
@@ -25,7 +27,10 @@ fn put_stamps(out: &mut Output<'_>, view: &View, client: bool)
     ensures same_reference { out.new.buffer.ghost_name ≡ out.old.buffer.ghost_name }
 {
     for r in view.chain(header::stamps(client)) {
-        writeln!(out, "stamp {} {}", side(client), r.moment().0);
+        out.put(b"stamp ");
+        out.put(&[side(client)]);
+        out.next(r.moment().0);
+        out.put(b"\n");
     }
 }
 
@@ -39,12 +44,10 @@ pub(crate) fn put_chains(out: &mut Output<'_>, view: &View)
     put_stamps(out, view, false);
     for r in view.chain(header::AGGREGATES) {
         let a = r.aggregate();
-        writeln!(
-            out,
-            "aggregate {} {} {}",
-            side(a.client),
-            a.moment.0,
-            a.length.0
-        );
+        out.put(b"aggregate ");
+        out.put(&[side(a.client)]);
+        out.next(a.moment.0);
+        out.next(a.length.0);
+        out.put(b"\n");
     }
 }

@@ -31,7 +31,8 @@ pub fn words(out: &mut Output<'_>, block: &[u64])
     ensures same_reference { out.new.buffer.ghost_name ≡ out.old.buffer.ghost_name }
 {
     for word in block {
-        writeln!(out, "{word}");
+        out.number(*word);
+        out.put(b"\n");
     }
     out.put(b"end\n");
 }

@@ -1,11 +1,10 @@
 // The machines' timers and actions that `show` lists: each one held, the client's first, by machine.
 ghost use Rattle.std.specs.Prelude.{◌≡◌};
 
-use crate::text::{Output, side};
+use crate::text::{Output, flag, side};
 use event::ScheduledAction;
 use queue::Words;
 use queue::header::Slot;
-use std::fmt;
 
 // The timers of a side.
 fn put_side_timers(out: &mut Output<'_>, words: &Words, client: bool)
@@ -13,7 +12,11 @@ fn put_side_timers(out: &mut Output<'_>, words: &Words, client: bool)
 {
     for machine in 0..16 {
         if let Some(t) = words.timer(Slot { client, machine }) {
-            writeln!(out, "timer {} {machine} {}", side(client), t.0);
+            out.put(b"timer ");
+            out.put(&[side(client)]);
+            out.next(machine);
+            out.next(t.0);
+            out.put(b"\n");
         }
     }
 }
@@ -26,19 +29,13 @@ pub(crate) fn put_timers(out: &mut Output<'_>, words: &Words)
 }
 
 // An action's kind, moment, duration, bypass and replace.
-#[derive(Clone, Copy)]
-struct Action(ScheduledAction);
-
-impl fmt::Display for Action {
-    fn fmt<W: fmt::Write>(&self, f: &mut fmt::Formatter<W>) -> fmt::Result {
-        let a = self.0;
-        let flags = [a.bypass, a.replace].map(u64::from);
-        write!(
-            f,
-            "{} {} {} {} {}",
-            a.kind.0, a.moment.0, a.duration.0, flags[0], flags[1]
-        )
-    }
+fn put_action(out: &mut Output<'_>, a: ScheduledAction)
+    ensures same_reference { out.new.buffer.ghost_name ≡ out.old.buffer.ghost_name }
+{
+    out.next(a.kind.0);
+    out.next(a.moment.0);
+    out.next(a.duration.0);
+    out.put(&[b' ', flag(a.bypass), b' ', flag(a.replace)]);
 }
 
 // The actions of a side.
@@ -47,7 +44,11 @@ fn put_side_actions(out: &mut Output<'_>, words: &Words, client: bool)
 {
     for machine in 0..16 {
         if let Some(a) = words.action(Slot { client, machine }) {
-            writeln!(out, "action {} {machine} {}", side(client), Action(a));
+            out.put(b"action ");
+            out.put(&[side(client)]);
+            out.next(machine);
+            put_action(out, a);
+            out.put(b"\n");
         }
     }
 }

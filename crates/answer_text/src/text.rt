@@ -4,8 +4,23 @@ ghost use Rattle.std.specs.Prelude.{◌≡◌, ◌+◌, ◌<◌, ◌≤◌, ◌+
 use std::fmt;
 use std::fmt::Write;
 
+// The digits of the longest number, and the first number that is not short.
+const DIGITS: usize = 20;
+
+const SHORT: u64 = 10_000_000_000;
+
 // The descriptor of standard output.
 const STDOUT_FILENO: i32 = 1;
+
+// The digits of n, at the start of a place; answers how many they are.
+fn digits(place: &mut [u8], n: u64) -> usize
+    requires { 20 ≤ length place.old }
+    ensures few { result ≤ 20 }
+    ensures long { length place.new ≡ length place.old }
+{
+    let (first, _) = place.split_first_chunk_mut().unwrap();
+    io::decimal(n, first)
+}
 
 // The used bytes of the buffer wait to be written.
 // The buffer is lent by `main`, with how much of it is used: no heap.
@@ -32,6 +47,8 @@ impl<'a> Output<'a> {
     }
 
     // The used bytes are written out first where there is no room, and the text itself where the whole buffer has none.
+    // In line, since most texts are constants of a few bytes: they are then stored, and no copying is called.
+    #[inline(always)]
     pub fn put(&mut self, text: &[u8])
         ensures joins { self.old.used + length text.now ≤ length self.old.buffer.now → (self.new.used ≡ self.old.used + length text.now) × (self.new.buffer.now ≡ take self.old.used self.old.buffer.now ++ (text.now ++ drop (self.old.used + length text.now) self.old.buffer.now)) }
         ensures alone { length self.old.buffer.now < self.old.used + length text.now → length text.now ≤ length self.old.buffer.now → (self.new.used ≡ length text.now) × (self.new.buffer.now ≡ text.now ++ drop (length text.now) self.old.buffer.now) }
@@ -48,6 +65,40 @@ impl<'a> Output<'a> {
             self.used = end;
         } else {
             io::write_all(STDOUT_FILENO, text);
+        }
+    }
+
+    // A number. A short one is written where it is to stand, if there is room for any: through a formatter, as the others go, it takes several times as long.
+    pub(crate) fn number(&mut self, n: u64)
+        ensures same_reference { self.new.buffer.ghost_name ≡ self.old.buffer.ghost_name }
+    {
+        if n < SHORT && DIGITS <= self.room() {
+            let used = self.used;
+            self.used = used + digits(&mut self.buffer[used..], n);
+        } else {
+            write!(self, "{n}");
+        }
+    }
+
+    // A space and a number.
+    pub(crate) fn next(&mut self, n: u64)
+        ensures same_reference { self.new.buffer.ghost_name ≡ self.old.buffer.ghost_name }
+    {
+        if n < 10 {
+            self.put(&[b' ', b'0' + n as u8]);
+        } else {
+            self.put(b" ");
+            self.number(n);
+        }
+    }
+
+    // A space and a number, or `-` where there is none.
+    pub(crate) fn next_or_dash(&mut self, n: Option<u64>)
+        ensures same_reference { self.new.buffer.ghost_name ≡ self.old.buffer.ghost_name }
+    {
+        match n {
+            Some(n) => self.next(n),
+            None => self.put(b" -"),
         }
     }
 
@@ -121,8 +172,15 @@ impl fmt::Display for OrDash {
 }
 
 // The letter of a side.
-pub(crate) fn side(client: bool) -> char
+pub(crate) fn side(client: bool) -> u8
     ensures { result ≡ (if client then 99 else 115) }
 {
-    if client { 'c' } else { 's' }
+    if client { b'c' } else { b's' }
+}
+
+// The digit of a flag.
+pub(crate) fn flag(yes: bool) -> u8
+    ensures { result ≡ (if yes then 49 else 48) }
+{
+    if yes { b'1' } else { b'0' }
 }
