@@ -22,6 +22,20 @@ fn digits(place: &mut [u8], n: u64) -> usize
     io::decimal(n, first)
 }
 
+// A space and the digits of n, likewise.
+fn spaced(place: &mut [u8], n: u64) -> usize
+    requires { 21 ≤ length place.old }
+    ensures few { result ≤ 21 }
+    ensures long { length place.new ≡ length place.old }
+{
+    place[0] = b' ';
+    if n < 10 {
+        place[1] = b'0' + n as u8;
+        return 2;
+    }
+    1 + digits(&mut place[1..], n)
+}
+
 // The used bytes of the buffer wait to be written.
 // The buffer is lent by `main`, with how much of it is used: no heap.
 #[derive(Drop)]
@@ -84,8 +98,9 @@ impl<'a> Output<'a> {
     pub(crate) fn next(&mut self, n: u64)
         ensures same_reference { self.new.buffer.ghost_name ≡ self.old.buffer.ghost_name }
     {
-        if n < 10 {
-            self.put(&[b' ', b'0' + n as u8]);
+        if n < SHORT && DIGITS < self.room() {
+            let used = self.used;
+            self.used = used + spaced(&mut self.buffer[used..], n);
         } else {
             self.put(b" ");
             self.number(n);
