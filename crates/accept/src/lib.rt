@@ -18,39 +18,43 @@ pub fn size_ok(n: usize) -> bool
     (260..=262_396).contains(&n) && n % 4 == 0
 }
 
-// The last records of the chains, where a header and the records after it are in order, each for itself and together.
+// Whether a header and the records after it are in order, each for itself and together.
 #[tactic(auto, unfolding(crate::specs::Slots::FoundAll))]
-fn good(head: &Header, rest: &[u64]) -> Option<[u64; 12]>
+fn good(head: &Header, rest: &[u64], hints: &mut [u64; 12]) -> bool
     requires { length rest.now ≤ 262140 }
-    ensures { Decides (Good head.now.words.now rest.now) (is_some result) }
+    ensures { Decides (Good head.now.words.now rest.now) result }
 {
     if !head.limited() {
-        return None;
+        return false;
     }
-    let reserve = head.test_slots()?;
-    let hints = records::chains_ok(head, rest)?;
+    let Some(reserve) = head.test_slots() else {
+        return false;
+    };
+    if !records::chains_ok(head, rest, hints) {
+        return false;
+    }
     let last = (rest.len() / 4) as u64;
     if records::counted(head) != last {
-        return None;
+        return false;
     }
-    (last - head.words[25] + reserve <= last).then_some(hints)
+    last - head.words[25] + reserve <= last
 }
 
-// The last record of each chain, 0 for an empty one, where the lent words are an accepted state. These are hints and nothing is promised of them: the push that
-// follows then need not walk the chain again.
-pub fn accepted_with(block: &[u64]) -> Option<[u64; 12]>
-    ensures { Decides (Accepted block.now) (is_some result) }
+// Whether the lent words are an accepted state. Where they are, the walk of the chains leaves the last record of each in the hints, 0 for an empty one. These are
+// hints and nothing is promised of them: the push that follows then need not walk the chain again.
+pub fn accepted_with(block: &[u64], hints: &mut [u64; 12]) -> bool
+    ensures { Decides (Accepted block.now) result }
 {
     if !size_ok(block.len()) {
-        return None;
+        return false;
     }
     let (words, rest) = block.split_first_chunk::<HEADER_WORDS>().unwrap();
-    good(&Header { words }, rest)
+    good(&Header { words }, rest, hints)
 }
 
 // Whether the lent words are an accepted state.
 pub fn accepted(block: &[u64]) -> bool
     ensures { Decides (Accepted block.now) result }
 {
-    accepted_with(block).is_some()
+    accepted_with(block, &mut [0; 12])
 }

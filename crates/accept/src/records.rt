@@ -146,23 +146,26 @@ fn chain_ok(rest: &[u64], k: u64, machines: u64, chain: Entry) -> Option<u64>
     (at == 0).then_some(tail)
 }
 
-// The last record of each chain, 0 for an empty one, where each is in order. A count is held against the number of records before its chain is walked.
-pub fn chains_ok(header: &Header, records: &[u64]) -> Option<[u64; 12]>
+// Whether each chain is in order. Its last record, 0 for an empty one, goes into the hints. A count is held against the number of records before its chain is
+// walked.
+pub fn chains_ok(header: &Header, records: &[u64], hints: &mut [u64; 12]) -> bool
     requires { length records.now ≤ 262140 }
-    ensures { Decides (ChainsOk header.now.words.now records.now) (is_some result) }
+    ensures { Decides (ChainsOk header.now.words.now records.now) result }
 {
-    let mut hints = [0; 12];
     let words = header.words;
     let last = (records.len() / 4) as u64;
     for k in 0..CHAINS {
         let chain = Entry::of(words, k);
         if last < chain.count {
-            return None;
+            return false;
         }
         let machines = words[8 + k / 6];
-        hints[k] = chain_ok(records, k as u64, machines, chain)?;
+        let Some(tail) = chain_ok(records, k as u64, machines, chain) else {
+            return false;
+        };
+        hints[k] = tail;
     }
-    Some(hints)
+    true
 }
 
 // The records of all chains, taken together.

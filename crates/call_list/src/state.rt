@@ -127,11 +127,11 @@ impl<'a> State<'a> {
 
     // ---- the calls on accepted words, which leave such
 
-    // Number 1 or 2 of the lent words.
-    fn number(&self) -> Result<[u64; 12], Reason>
+    // Number 1 or 2 of the lent words. The test leaves its hints.
+    fn number(&self, hints: &mut [u64; 12]) -> Result<(), Reason>
         ensures { Lent (take self.now.lent self.now.words.now) (refused_with result) }
     {
-        simulator::admit::lent(&self.words[..self.lent])
+        simulator::admit::lent(&self.words[..self.lent], hints)
     }
 
     // The refusal of any call where the lent words have such a number. Words that are known to be accepted are not tested again.
@@ -141,7 +141,9 @@ impl<'a> State<'a> {
         ensures same_reference { self.new.words.ghost_name ≡ self.old.words.ghost_name }
     {
         if !self.known {
-            self.hints = self.number()?;
+            let mut hints = [0; 12];
+            self.number(&mut hints)?;
+            self.hints = hints;
             self.known = true;
         }
         Ok(())

@@ -14,7 +14,7 @@ fn make_row(
     block: &mut [u64],
     hints: &mut [u64; 12],
     row: &Row<'_>,
-    tested: Result<[u64; 12], Reason>,
+    tested: Result<(), Reason>,
     last: u64,
 ) -> [u64; 16]
     requires { Lent block.old (refused_with tested) }
@@ -46,7 +46,7 @@ fn make_rows(
     hints: &mut [u64; 12],
     rows: &[u64],
     out: &mut [u64],
-    tested: Result<[u64; 12], Reason>,
+    tested: Result<(), Reason>,
 ) -> u64
     requires { Lent block.old (refused_with tested) }
     ensures { Listed block.old rows.now out.old result block.new out.new }
@@ -72,7 +72,7 @@ fn make_rows(
 pub fn calls(block: &mut [u64], rows: &[u64], out: &mut [u64]) -> u64
     ensures { Listed block.old rows.now out.old result block.new out.new }
 {
-    let tested = simulator::admit::lent(block);
-    let mut hints = tested.unwrap_or([0; 12]);
+    let mut hints = [0; 12];
+    let tested = simulator::admit::lent(block, &mut hints);
     make_rows(block, &mut hints, rows, out, tested)
 }

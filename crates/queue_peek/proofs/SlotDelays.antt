@@ -12,7 +12,7 @@ use Rattle.std.specs.Ordering.{is_lt, nat_cmp}
 use Rattle.moment.specs.declared.Moment.{Moment}
 use Rattle.moment.specs.declared.Length.{Length}
 use Rattle.moment.proofs.Order.{lt_is}
-use Rattle.rules.specs.Basics.{after, absent, earlier}
+use Rattle.rules.specs.Basics.{Delay, after, absent, earlier}
 use Rattle.rules.specs.ChoiceDelays.{slot_delay, least_delay}
 use Rattle.queue.specs.Slots.{held_at}
 use Rattle.queue.specs.Views.{moment_no}
@@ -64,3 +64,15 @@ pub least_turn :
 least_turn t m l best d next o lo hi len eb eo ed en =
     let up : suc (m - 1) ≡ m = omega arith in
     en ∙ ap₂ earlier (ed ∙ ap (slot_delay t) eo) (eb ∙ ap (λ i. least_delay t (drop i l)) (sym up)) ∙ ap (least_delay t) (sym (drop_held l (m - 1) (omega arith)))
+
+-- an absent delay leaves the least as it is
+absent_leaves : (d : Delay) → d ≡ earlier absent d
+absent_leaves absent = refl
+absent_leaves (after n) = refl
+
+-- the turn at a slot that holds nothing
+pub least_kept :
+    (t m : ℕ) (l : List (RulesOption ℕ)) (best : Option Length) (o : Option Moment) → 0 < m → m ≤ 16 → length l ≡ 16 → delay_of best ≡ least_delay t (drop m l) → moment_no o ≡ held_at l (m - 1)
+    → o ≡ None → delay_of best ≡ least_delay t (drop (m - 1) l)
+unfolding delay_of
+least_kept t m l best o lo hi len eb eo e = least_turn t m l best None best o lo hi len eb eo (ap (λ x. slot_delay t (moment_no x)) (sym e)) (absent_leaves (delay_of best))

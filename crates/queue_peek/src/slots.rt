@@ -94,8 +94,10 @@ fn least_delay<S: Slots>(slotted: &Slotted, client: bool, time: Moment) -> Optio
     let mut best = None;
     for machine in (0..machines).rev() {
         let slot = Slot { client, machine };
-        let delay = slot_delay(S::moment(&slotted.words, slot), time);
-        best = order::earlier(delay, best);
+        if let Some(moment) = S::moment(&slotted.words, slot) {
+            let delay = slot_delay(Some(moment), time);
+            best = order::earlier(delay, best);
+        }
     }
     best
 }

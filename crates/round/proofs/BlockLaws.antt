@@ -111,31 +111,32 @@ module _ (w : List ℕ) (now : ℕ) (k : BlockEnd) (by : Option Length) (due : B
 
   -- ---- `BlockingEnd`
 
+  module _ (w₁ : List ℕ) (c : Becomes w w₁ (clear_block (state_of w) now (block_from k))) (d : Length) (ed : d.0 ≡ (side (state_of w₁) (side_of k.client)).fixed.reporting_delay) where
+    reporting_is : d.0 ≡ (side (state_of w) (side_of k.client)).fixed.reporting_delay
+    reporting_is = ed ∙ ap (λ (s : State). (side s (side_of k.client)).fixed.reporting_delay) c.state ∙ clear_fixed (state_of w) now (block_from k)
+
+    by_delay_lem : (b : Bool) → eqb d.0 0 ≡ b
+        → end_block (state_of w) now (block_from k) ≡ (if b then taken (end_event (state_of w) now (block_from k)) (clear_block (state_of w) now (block_from k)) else next (push_event (clear_block (state_of w) now (block_from k)) (end_event (state_of w) now (block_from k))))
+    by_delay_lem b e =
+        ap (λ (t : Bool). if t then taken (end_event (state_of w) now (block_from k)) (clear_block (state_of w) now (block_from k)) else next (push_event (clear_block (state_of w) now (block_from k)) (end_event (state_of w) now (block_from k))))
+        (ap (λ (n : ℕ). eqb n 0) (sym reporting_is) ∙ e)
+
   module _
       (w₁ : List ℕ) (c : Becomes w w₁ (clear_block (state_of w) now (block_from k))) (v : Words) (eh : v.header.now ≡ take 256 w₁) (d : Length)
       (seen : (rs : List ℕ) → d.0 ≡ (side_held v.header.now rs k.client).fixed.reporting_delay) (end : Moment) (ee : end.0 ≡ end_moment now (block_from k)) where
     told : d.0 ≡ (side (state_of w₁) (side_of k.client)).fixed.reporting_delay
     told = let e = rw eh at seen in e (drop 256 w₁)
 
-    reporting_is : d.0 ≡ (side (state_of w) (side_of k.client)).fixed.reporting_delay
-    reporting_is = told ∙ ap (λ (s : State). (side s (side_of k.client)).fixed.reporting_delay) c.state ∙ clear_fixed (state_of w) now (block_from k)
-
     pub end_fits : end.0 + d.0 < 2 ^ 64
-    end_fits = omega (arith, due.sum, reporting_is, ee)
+    end_fits = omega (arith, due.sum, reporting_is w₁ c d told, ee)
 
     module _ (r : SimEvent) (shows : Shows r (end_of (side_of k.client) end.0 d.0)) where
       shown : Shows r (end_event (state_of w) now (block_from k))
-      shown = subst (Shows r) (λ i. end_of (side_of k.client) (ee i) (reporting_is i)) shows
-
-      by_delay_lem : (b : Bool) → eqb d.0 0 ≡ b
-          → end_block (state_of w) now (block_from k) ≡ (if b then taken (end_event (state_of w) now (block_from k)) (clear_block (state_of w) now (block_from k)) else next (push_event (clear_block (state_of w) now (block_from k)) (end_event (state_of w) now (block_from k))))
-      by_delay_lem b e =
-          ap (λ (t : Bool). if t then taken (end_event (state_of w) now (block_from k)) (clear_block (state_of w) now (block_from k)) else next (push_event (clear_block (state_of w) now (block_from k)) (end_event (state_of w) now (block_from k))))
-          (ap (λ (n : ℕ). eqb n 0) (sym reporting_is) ∙ e)
+      shown = subst (Shows r) (λ i. end_of (side_of k.client) (ee i) (reporting_is w₁ c d told i)) shows
 
       pub end_returned : (rounds : ℕ) → d.0 ≡ 0 → Passed w w₁ rounds (end_block (state_of w) now (block_from k)) (Ok (Some (record { event = Some r; rounds = rounds + 1 })))
       end_returned rounds e =
-          subst (λ (o : RoundOutcome). Passed w w₁ rounds o (Ok (Some (record { event = Some r; rounds = rounds + 1 })))) (sym (by_delay_lem true (eq-eqb d.0 0 e)))
+          subst (λ (o : RoundOutcome). Passed w w₁ rounds o (Ok (Some (record { event = Some r; rounds = rounds + 1 })))) (sym (by_delay_lem w₁ c d told true (eq-eqb d.0 0 e)))
           (record { answer = ap (λ (x : MathOption Event). some (chosen_as x (rounds + 1))) (event_known r shown.canonical.kind ∙ ap some shown.is); words = c })
 
       pub end_may : MayPush w₁ r
@@ -143,5 +144,5 @@ module _ (w : List ℕ) (now : ℕ) (k : BlockEnd) (by : Option Length) (due : B
 
       pub end_queued : (rounds : ℕ) → (d.0 ≡ 0 → ⊥) → (w₂ : List ℕ) → Leaves w₁ w₂ (push_event (state_of w₁) (event_value r)) → Passed w w₂ rounds (end_block (state_of w) now (block_from k)) (Ok None)
       end_queued rounds n w₂ l =
-          subst (λ (o : RoundOutcome). Passed w w₂ rounds o (Ok None)) (sym (by_delay_lem false (ne_eqb d.0 0 n)))
+          subst (λ (o : RoundOutcome). Passed w w₂ rounds o (Ok None)) (sym (by_delay_lem w₁ c d told false (ne_eqb d.0 0 n)))
           (record { answer = refl; words = event_pushed w w₁ _ _ r c shown w₂ l })

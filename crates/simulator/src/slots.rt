@@ -222,7 +222,7 @@ pub fn set_on<H: Held>(block: &mut [u64], slot: Slot, held: H) -> Answer
 pub fn set<H: Held>(block: &mut [u64], slot: Slot, held: H) -> Answer
     ensures { Outcome block.old (H.setting (slot_in slot.client slot.machine) held) (answer_of result) block.new }
 {
-    admit::lent(block)?;
+    admit::lent(block, &mut [0; 12])?;
     set_on(block, slot, held)
 }
 
@@ -240,7 +240,7 @@ pub fn clear_on<H: Held>(block: &mut [u64], slot: Slot) -> Answer
 pub fn clear<H: Held>(block: &mut [u64], slot: Slot) -> Answer
     ensures { Outcome block.old (H.clearing (slot_in slot.client slot.machine)) (answer_of result) block.new }
 {
-    admit::lent(block)?;
+    admit::lent(block, &mut [0; 12])?;
     clear_on::<H>(block, slot)
 }
 

@@ -4,7 +4,7 @@ use Rattle.calls.proofs.RowLaws.{bad_made, row_call, row_turn}
 use Rattle.calls.proofs.list.make_row.Goals as goal
 
 pub returns-in-Err : goal.returns-in-Err
-returns-in-Err c = search bad_made
+returns-in-Err c = first_of (search bad_made, cc)
 
 pub returns-in-Call : goal.returns-in-Call
 returns-in-Call c = λ rows at row. row_call _ rows at _ _ _ _ c.args.row.now.code c.args.row.now.coded row _ c.in-Call.is c.call.ensures

@@ -2,5 +2,5 @@
 use Rattle.call_list.proofs.Refusing.{tested_refused}
 use Rattle.call_list.proofs.state.State.tested.Goals as goal
 
-pub returns-in_err-self-clause-tested : goal.returns-in_err-self-clause-tested
-returns-in_err-self-clause-tested c = search (tested_refused, c.in_err-self.ensures)
+pub returns-in_err-number-clause-tested : goal.returns-in_err-number-clause-tested
+returns-in_err-number-clause-tested c = search (tested_refused, c.in_err-number.ensures)
