@@ -1,7 +1,7 @@
 // The test of the lent words: which are an accepted state.
 #![tactic(auto)]
 
-ghost use Rattle.std.specs.Prelude.{◌≡◌, ◌≤◌, is_some, length};
+ghost use Rattle.std.specs.Prelude.{◌≡◌, ◌≤◌, length};
 ghost use Rattle.layout.specs.Decides.{Decides};
 ghost use Rattle.layout.specs.Accepted.{SizeOk, Good, Accepted};
 

@@ -9,8 +9,7 @@ use Rattle.queue_peek.proofs.slots.least_delay.Goals as goal
 
 pub loop-machine-init : goal.loop-machine-init
 loop-machine-init g c =
-    let few = machines_few c.args.slotted.now.words.header.now c.args.client _ c.args.slotted.now.limits c.of_side-machines.ensures in
-    (
+    let few = machines_few c.args.slotted.now.words.header.now c.args.client _ c.args.slotted.now.limits c.of_side-machines.ensures in (
       omega (arith, few),
       λ rs. let e = machines_held c.args.slotted.now.words.header.now rs c.args.client _ c.of_side-machines.ensures in
           least_start c.args.time.0 _ _ (λ i k. g.met.S.Slots.beyond c.args.slotted.now.words.header.now rs c.args.client i c.args.slotted.now.slots (omega (arith, few, e, k))),
