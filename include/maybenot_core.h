@@ -53,8 +53,8 @@ extern "C" {
 #define MAYBENOT_CORE_MAX_RATE UINT64_C(4294967295)              /* packets a window; the least is 1 */
 
 /*
- * Stack to keep free for a call, in bytes. Measured, not proved: on x86-64 a list of calls takes 1,500 bytes, a choice 1,196,
- * a step 1,144, a push 1,064, packing 1,000 and every other call less than 900, arguments, return address and the calling
+ * Stack to keep free for a call, in bytes. Measured, not proved: on x86-64 a list of calls takes 1,196 bytes, a choice 1,004,
+ * a step 768, packing 584, a push 512 and every other call less than 500, arguments, return address and the calling
  * function's own frame included. That is the deepest of 110,000 random calls on a painted stack (runs/stack.c, which
  * runs/bindings runs and holds to this number). No function of the archive calls itself.
  */
