@@ -16,6 +16,7 @@ use Rattle.rules.specs.ChoiceRound.{fits, lift_event, pop_side}
 use Rattle.rules.specs.NetworkStep.{as_padding, replace_by, replacing, step_padding, unmoved}
 use Rattle.event.specs.declared.SimEvent.{SimEvent}
 use Rattle.event.specs.HandedIn.{side_of}
+use Rattle.layout.specs.Layout.{state_from}
 use Rattle.queue.specs.declared.peek.Head.{Head as HeadFound}
 use Rattle.queue.specs.declared.header.Queue.{Queue}
 use Rattle.queue.specs.Queues.{queue_of}
@@ -120,16 +121,18 @@ dropped_as p e = record { is = e; number = λ x q. absurd (let z : ◌≡◌ {A 
 replaced_one : (v x : Replaced) → Replaces v ≡ Replaces x → v ≡ x
 replaced_one v x e = cc
 
+-- of any words, also of those that are no accepted state
+module _ (h rs : List ℕ) (e : SimEvent) (now : ℕ) where
+  pub plan_own : e.replace ≡ false → PaddingAs Own (padding_plan (state_from h rs) now (padded_of e))
+  unfolding padding_plan
+  plan_own r = own_as _ (sym (ap (λ t. if t then plan_replacing (state_from h rs) now (padded_of e) (waiting_head (side_held h rs e.client).block_bypassable (side_held h rs e.client)) else own) r))
+
 module _ (w : View) (e : SimEvent) (now : ℕ) where
   abbrev held : State
   held = state_in w
 
   abbrev own_side : SideState
   own_side = side_in w e.client
-
-  pub plan_own : e.replace ≡ false → PaddingAs Own (padding_plan held now (padded_of e))
-  unfolding padding_plan
-  plan_own r = own_as _ (sym (ap (λ t. if t then plan_replacing held now (padded_of e) (waiting_head own_side.block_bypassable own_side) else own) r))
 
   -- v is the event's side of this view, and f its first packet that waits
   module _ (r : e.replace ≡ true) (t : Bool) (et : t ≡ own_side.block_bypassable) (v : SideView) (ev : v.view ≡ w) (ec : v.client ≡ e.client)
